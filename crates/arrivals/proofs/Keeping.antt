@@ -2,7 +2,7 @@
 use Rattle.std.proofs.Common.{◌≡◌, ℕ, ◌<◌, ℤ, Bool, ◌||◌, List, [], ◌∷◌, refl, inl}
 use Rattle.semantics.specs.Core.{Statement, Set, Store, If, Loop, Barrier, Return, Break, Continue}
 use Rattle.semantics.specs.Setup.{Setup, item_count}
-use Rattle.semantics.specs.Item.{Entry, Item, Status, Running, Waiting, Ended, Stopped}
+use Rattle.semantics.specs.Item.{Entry, Item, Status, Running, Waiting, Ended, Stopped, trail}
 use Rattle.semantics.specs.Ask.{Ask, Loads, Stores, Goes, Waits, Rests, act, front, passes, by_status, ask}
 use Rattle.semantics.specs.Solo.{after, passed}
 use Rattle.semantics.specs.Contents.{IsHonest, HonestFront, StoresKept, Holds}
@@ -31,13 +31,13 @@ module _ (s : Setup) (k : Notes) (sound : IsSound s) (shown : Shown s k) (stores
   kept_by (Waits next) f = tt
   kept_by Rests f = tt
 
-  keeps_at : (again : Bool) (st : Statement) (t : ℕ) (r : List Entry) → it.status ≡ Running → HonestFront s k.contents i st it.variables it.answers → (h : Standing s k i (passed s i ws) (record { statement = st; turns = t } ∷ r) it.variables (front_one st (has_turned t) (bare r)))
+  keeps_at : (again : Bool) (st : Statement) (t : ℕ) (r : List Entry) → it.status ≡ Running → HonestFront s k.contents i (trail it.left) st it.variables it.answers → (h : Standing s k i (passed s i ws) (record { statement = st; turns = t } ∷ r) it.variables (front_one st (has_turned t) (bare r)))
       → IsFront (record { statement = left st again; path = h.path }) h.path (front_one st (has_turned t) (bare r) h.turns) → StoresKept s k.contents (act s i it st t r)
   keeps_at again st t r run front h q = kept_by (act s i it st t r) (λ at site value next e.
       stores h.place (record { statement = left st again; path = h.path }) h.is_place (h.fronts (record { statement = left st again; path = h.path }) q) i h.start (held it.variables h.ranks) is_item h.came at value
       (record { it = it; turns = t; rest = r; site = site; next = next; runs = run; variables = refl; honest = front; stores = e }))
 
-  keeps_by : (st : Statement) (t : ℕ) (r : List Entry) → it.status ≡ Running → HonestFront s k.contents i st it.variables it.answers → Standing s k i (passed s i ws) (record { statement = st; turns = t } ∷ r) it.variables (front_one st (has_turned t) (bare r)) → StoresKept s k.contents (act s i it st t r)
+  keeps_by : (st : Statement) (t : ℕ) (r : List Entry) → it.status ≡ Running → HonestFront s k.contents i (trail it.left) st it.variables it.answers → Standing s k i (passed s i ws) (record { statement = st; turns = t } ∷ r) it.variables (front_one st (has_turned t) (bare r)) → StoresKept s k.contents (act s i it st t r)
   keeps_by (Set m x e) t r run front p = keeps_at (has_turned t) (Set m x e) t r run front p (inl refl)
   keeps_by (Store m y a x e) t r run front p = keeps_at (has_turned t) (Store m y a x e) t r run front p (inl refl)
   keeps_by (If m e yeses noes) t r run front p = keeps_at (has_turned t) (If m e yeses noes) t r run front p (inl refl)

@@ -5,7 +5,7 @@ use Rattle.semantics.specs.Core.{Term, Statement, Set, Store, If, Loop, Barrier,
 use Rattle.semantics.specs.Setup.{Setup, item_count}
 use Rattle.semantics.specs.Memory.{extent}
 use Rattle.semantics.specs.Evaluation.{Outcome, Gives, evaluate, within}
-use Rattle.semantics.specs.Item.{Entry, Item, Running, enter, finished, leave, resume}
+use Rattle.semantics.specs.Item.{Entry, Item, Running, enter, finished, leave, resume, trail}
 use Rattle.semantics.specs.Ask.{Goes, choose, on_value, stores, act, front}
 use Rattle.semantics.specs.Contents.{HonestFront, HonestTerm, Behind}
 use Rattle.arrivals.specs.Loops.{have_barrier}
@@ -51,27 +51,27 @@ module _ (s : Setup) (k : Notes) (i n : ℕ) where
       (λ m end path t q. inr (inr (subst (λ (g : Later). IsEntering m end (Tests e false ∷ path) (g t)) (walk-enter false noes r d) q))) h
 
   -- each statement in front, running; a loop is come to from some place
-  act_fine : (it : Item) (st : Statement) (t : ℕ) (r : List Entry) → it.status ≡ Running → it.left ≡ record { statement = st; turns = t } ∷ r → Stands s k i n (record { statement = st; turns = t } ∷ r) it.variables → Fronted s k i n st t r it.variables → IsPlaced s k i n it → HonestFront s k.contents i st it.variables it.answers → Fine s k i n it (act s i it st t r)
+  act_fine : (it : Item) (st : Statement) (t : ℕ) (r : List Entry) → it.status ≡ Running → it.left ≡ record { statement = st; turns = t } ∷ r → Stands s k i n (record { statement = st; turns = t } ∷ r) it.variables → Fronted s k i n st t r it.variables → IsPlaced s k i n it → HonestFront s k.contents i (trail it.left) st it.variables it.answers → Fine s k i n it (act s i it st t r)
   act_fine it (Set m x e) t r run left h f p fair =
-      value_fine s k i n it (evaluate s i e it.variables it.answers) (λ v _. Goes (finished it r (slice_set it.variables x v))) (somewhere s k i n _ it.variables _ h) p
+      value_fine s k i n it (evaluate s i (trail it.left) e it.variables it.answers) (λ v _. Goes (finished it r (slice_set it.variables x v))) (somewhere s k i n _ it.variables _ h) p
       (λ v rest is z. placed_by s k i n r (slice_set it.variables x v) (stepping s k i n _ r it.variables (slice_set it.variables x v) _ _ (Sets x e)
-      (λ path q a ranks c. record { root = c.root; line = c.line; own = c.own; follows = (held it.variables ranks, (c.follows, (v, (record { answers = it.answers; rest = rest; is = is; honest = fair }, refl)))) })
+      (λ path q a ranks c. record { root = c.root; line = c.line; own = c.own; follows = (held it.variables ranks, (c.follows, (v, (record { now = trail it.left; answers = it.answers; rest = rest; is = is; honest = fair }, refl)))) })
       (λ c q. controlled-rest (all_points s) c _ r q) (λ ranks q. q.1) (λ l x q. q) (λ u path t q. q) (λ u path t q. inr q) (λ m end path t q. inr q) h))
   act_fine it (Store m a site x e) t r run left h f p fair =
-      value_fine s k i n it (evaluate s i x it.variables it.answers) (λ index later. on_value s i it (evaluate s i e it.variables later) (λ v _. stores s i it a site (within (extent s a) index.value) v.value r)) (somewhere s k i n _ it.variables _ h) p
-      (λ index later is. value_fine s k i n it (evaluate s i e it.variables later) (λ v _. stores s i it a site (within (extent s a) index.value) v.value r) (somewhere s k i n _ it.variables _ h) p
+      value_fine s k i n it (evaluate s i (trail it.left) x it.variables it.answers) (λ index later. on_value s i it (evaluate s i (trail it.left) e it.variables later) (λ v _. stores s i it a site (within (extent s a) index.value) v.value r)) (somewhere s k i n _ it.variables _ h) p
+      (λ index later is. value_fine s k i n it (evaluate s i (trail it.left) e it.variables later) (λ v _. stores s i it a site (within (extent s a) index.value) v.value r) (somewhere s k i n _ it.variables _ h) p
       (λ v rest is'. stores_fine s k i n it a site (within (extent s a) index.value) v.value r
-      (stepping s k i n (record { statement = Store m a site x e; turns = t } ∷ r) r it.variables it.variables (λ t. Takes (Uses e) (walk_left false (bare r) t)) (walk_left false (bare r)) (Uses e) (uses e it.variables v (record { answers = later; rest = rest; is = is'; honest = behind_of (λ index later. HonestTerm s k.contents i e it.variables later) (evaluate s i x it.variables it.answers) index later is fair.1 }))
+      (stepping s k i n (record { statement = Store m a site x e; turns = t } ∷ r) r it.variables it.variables (λ t. Takes (Uses e) (walk_left false (bare r) t)) (walk_left false (bare r)) (Uses e) (uses e it.variables v (record { now = trail it.left; answers = later; rest = rest; is = is'; honest = behind_of (λ index later. HonestTerm s k.contents i (trail it.left) e it.variables later) (evaluate s i (trail it.left) x it.variables it.answers) index later is fair.1 }))
       (λ c q. controlled-rest (all_points s) c _ r q) (λ ranks q. q.1) (λ l y q. q) (λ u path t q. q) (λ u path t q. q) (λ m end path t q. inr q)
-      (stepping s k i n _ (record { statement = Store m a site x e; turns = t } ∷ r) it.variables it.variables _ (λ t. Takes (Uses e) (walk_left false (bare r) t)) (Uses x) (uses x it.variables index (record { answers = it.answers; rest = later; is = is; honest = fair.0 }))
+      (stepping s k i n _ (record { statement = Store m a site x e; turns = t } ∷ r) it.variables it.variables _ (λ t. Takes (Uses e) (walk_left false (bare r) t)) (Uses x) (uses x it.variables index (record { now = trail it.left; answers = it.answers; rest = later; is = is; honest = fair.0 }))
       (λ c q. q) (λ ranks q. q) (λ l y q. q) (λ u path t q. q) (λ u path t q. inr q) (λ m end path t q. inr q) h))))
   act_fine it (If m e yeses noes) t r run left h f p fair =
-      value_fine s k i n it (evaluate s i e it.variables it.answers) (λ v _. Goes (finished it (choose (is_zero v.value) (enter noes r) (enter yeses r)) it.variables)) (somewhere s k i n _ it.variables _ h) p
-      (λ v rest is z. placed_by s k i n (choose (is_zero v.value) (enter noes r) (enter yeses r)) it.variables (branch_on m e yeses noes t r it.variables v (record { answers = it.answers; rest = rest; is = is; honest = fair }) (is_zero v.value) refl h))
+      value_fine s k i n it (evaluate s i (trail it.left) e it.variables it.answers) (λ v _. Goes (finished it (choose (is_zero v.value) (enter noes r) (enter yeses r)) it.variables)) (somewhere s k i n _ it.variables _ h) p
+      (λ v rest is z. placed_by s k i n (choose (is_zero v.value) (enter noes r) (enter yeses r)) it.variables (branch_on m e yeses noes t r it.variables v (record { now = trail it.left; answers = it.answers; rest = rest; is = is; honest = fair }) (is_zero v.value) refl h))
   act_fine it (Loop m e b u) t r run left h f p fair =
-      value_fine s k i n it (evaluate s i e it.variables it.answers) (λ v _. Goes (finished it (choose (is_zero v.value) r (enter b (enter u (record { statement = Loop m e b u; turns = t + 1 } ∷ r)))) it.variables)) (somewhere s k i n _ it.variables _ h) p
+      value_fine s k i n it (evaluate s i (trail it.left) e it.variables it.answers) (λ v _. Goes (finished it (choose (is_zero v.value) r (enter b (enter u (record { statement = Loop m e b u; turns = t + 1 } ∷ r)))) it.variables)) (somewhere s k i n _ it.variables _ h) p
       (λ v rest is z. placed_by s k i n (choose (is_zero v.value) r (enter b (enter u (record { statement = Loop m e b u; turns = t + 1 } ∷ r)))) it.variables
-      (loop_on s k i n m e b u t r it.variables v (record { answers = it.answers; rest = rest; is = is; honest = fair }) (have_barrier b || have_barrier u) (is_zero v.value) refl refl f.stands f.tested))
+      (loop_on s k i n m e b u t r it.variables v (record { now = trail it.left; answers = it.answers; rest = rest; is = is; honest = fair }) (have_barrier b || have_barrier u) (is_zero v.value) refl refl f.stands f.tested))
   act_fine it (Barrier m l g) t r run left h f p fair = λ z. subst (λ left. IsAtBarrier left × Stands s k i n left it.variables) (sym left) (refl, h)
   act_fine it (Return m) t r run left h f p fair = λ z. (refl, going s k i n _ [] it.variables _ _ (λ c q. nothing_left (all_points s) c) (λ ranks q. tt) (λ l x q. absurd q) (λ u path t q. q) (λ u path t q. q) (λ m end path t q. q) h)
   act_fine it (Break m j) t r run left h f p fair = λ z. placed_by s k i n (leave j r) it.variables

@@ -4,7 +4,7 @@ use Rattle.semantics.specs.Word.{Word}
 use Rattle.semantics.specs.Core.{number}
 use Rattle.semantics.specs.Setup.{Setup}
 use Rattle.semantics.specs.Evaluation.{Outcome, Gives, Needs, Faults, Index, At, Outside}
-use Rattle.semantics.specs.Item.{Entry, Item, Status, Running, Waiting, Ended, Stopped, status_of}
+use Rattle.semantics.specs.Item.{Entry, Item, Status, Running, Waiting, Ended, Stopped, status_of, trail}
 use Rattle.semantics.specs.Ask.{Ask, on_value, stores}
 use Rattle.semantics.specs.Solo.{moved}
 use Rattle.semantics.specs.Conditions.{Content}
@@ -22,7 +22,7 @@ use Rattle.arrivals.proofs.Standing.{all_points, Visited, Standing}
 
 -- the answers to the loads of the statement in front are numbers that the lines let buffers hold
 abbrev pub IsHonestItem : Setup → List Content → ℕ → Item → Type 0
-IsHonestItem s cs i it = (e : Entry) (r : List Entry) → it.left ≡ e ∷ r → HonestFront s cs i e.statement it.variables it.answers
+IsHonestItem s cs i it = (e : Entry) (r : List Entry) → it.left ≡ e ∷ r → HonestFront s cs i (trail it.left) e.statement it.variables it.answers
 
 -- a barrier is in front
 abbrev pub IsAtBarrier : List Entry → Type 0

@@ -3,7 +3,7 @@ use Rattle.std.proofs.Common.{◌≡◌, ◌≢◌, ℕ, ◌<◌, ℤ, ◌||◌,
 use Rattle.semantics.specs.Word.{Fault}
 use Rattle.semantics.specs.Core.{Site, Statement, Set, Store, If, Loop, Barrier, Return, Break, Continue}
 use Rattle.semantics.specs.Setup.{Setup, item_count}
-use Rattle.semantics.specs.Item.{Entry, Item, Status, Running, Waiting, Ended, Stopped, status_of, enter, leave, resume}
+use Rattle.semantics.specs.Item.{Entry, Item, Status, Running, Waiting, Ended, Stopped, status_of, enter, leave, resume, trail}
 use Rattle.semantics.specs.Ask.{act, front, passes, by_status, ask}
 use Rattle.semantics.specs.Solo.{after, passed, opening, moved}
 use Rattle.semantics.specs.Contents.{IsHonest, HonestFront}
@@ -28,11 +28,11 @@ module _ (s : Setup) (k : Notes) (sound : IsSound s) (shown : Shown s k) (faults
   abbrev it : Item
   it = after s i ws
 
-  fault_at : (again : Bool) (st : Statement) (t : ℕ) (r : List Entry) → it.status ≡ Running → HonestFront s k.contents i st it.variables it.answers → (moved it (act s i it st t r) z).status ≡ Stopped f site → (h : Standing s k i (passed s i ws) (record { statement = st; turns = t } ∷ r) it.variables (front_one st (has_turned t) (bare r))) → IsFront (record { statement = left st again; path = h.path }) h.path (front_one st (has_turned t) (bare r) h.turns) → ⊥
+  fault_at : (again : Bool) (st : Statement) (t : ℕ) (r : List Entry) → it.status ≡ Running → HonestFront s k.contents i (trail it.left) st it.variables it.answers → (moved it (act s i it st t r) z).status ≡ Stopped f site → (h : Standing s k i (passed s i ws) (record { statement = st; turns = t } ∷ r) it.variables (front_one st (has_turned t) (bare r))) → IsFront (record { statement = left st again; path = h.path }) h.path (front_one st (has_turned t) (bare r) h.turns) → ⊥
   fault_at again st t r run front e h q = faults h.place (record { statement = left st again; path = h.path }) h.is_place (h.fronts (record { statement = left st again; path = h.path }) q) i h.start (held it.variables h.ranks) is_item h.came
       (record { it = it; turns = t; rest = r; answer = z; fault = f; site = site; runs = run; variables = refl; honest = front; stops = e })
 
-  fault_by : (st : Statement) (t : ℕ) (r : List Entry) → it.status ≡ Running → HonestFront s k.contents i st it.variables it.answers → (moved it (act s i it st t r) z).status ≡ Stopped f site → Standing s k i (passed s i ws) (record { statement = st; turns = t } ∷ r) it.variables (front_one st (has_turned t) (bare r)) → ⊥
+  fault_by : (st : Statement) (t : ℕ) (r : List Entry) → it.status ≡ Running → HonestFront s k.contents i (trail it.left) st it.variables it.answers → (moved it (act s i it st t r) z).status ≡ Stopped f site → Standing s k i (passed s i ws) (record { statement = st; turns = t } ∷ r) it.variables (front_one st (has_turned t) (bare r)) → ⊥
   fault_by (Set m x e) t r run front h p = fault_at (has_turned t) (Set m x e) t r run front h p (inl refl)
   fault_by (Store m y a x e) t r run front h p = fault_at (has_turned t) (Store m y a x e) t r run front h p (inl refl)
   fault_by (If m e yeses noes) t r run front h p = fault_at (has_turned t) (If m e yeses noes) t r run front h p (inl refl)

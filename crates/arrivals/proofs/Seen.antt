@@ -2,7 +2,7 @@
 use Rattle.std.proofs.Common.{◌≡◌, ℕ, ◌<◌, ℤ, Bool, true, false, ◌||◌, List, [], ◌∷◌, Option, Some, refl, inl, inr, subst}
 use Rattle.semantics.specs.Core.{Statement, Set, Store, If, Loop, Barrier, Return, Break, Continue}
 use Rattle.semantics.specs.Setup.{Setup, item_count}
-use Rattle.semantics.specs.Item.{Entry, Item, Status, Running, Waiting, Ended, Stopped}
+use Rattle.semantics.specs.Item.{Entry, Item, Status, Running, Waiting, Ended, Stopped, trail}
 use Rattle.semantics.specs.Ask.{Ask, Loads, Stores, Goes, Waits, Rests, act, front, passes, by_status, ask}
 use Rattle.semantics.specs.Solo.{Access, after, passed, touch, Touched, epoch}
 use Rattle.semantics.specs.Contents.{IsHonest, HonestFront}
@@ -61,7 +61,7 @@ in_front n e b u a rest true t path = inl refl
 in_front n e b u a rest false t path = inl refl
 
 module _ (s : Setup) (k : Notes) (sound : IsSound s) (shown : Shown s k) (i : ℕ) (is_item : i < item_count s) where
-  seen_at : (again : Bool) (ws : List ℤ) (a : Access) (st : Statement) (t : ℕ) (r : List Entry) → IsHonest s k.contents i ws → HonestFront s k.contents i st (after s i ws).variables (after s i ws).answers → touch i (after s i ws) (act s i (after s i ws) st t r) ≡ Some a → (h : Standing s k i (passed s i ws) (record { statement = st; turns = t } ∷ r) (after s i ws).variables (front_one st (has_turned t) (bare r)))
+  seen_at : (again : Bool) (ws : List ℤ) (a : Access) (st : Statement) (t : ℕ) (r : List Entry) → IsHonest s k.contents i ws → HonestFront s k.contents i (trail (after s i ws).left) st (after s i ws).variables (after s i ws).answers → touch i (after s i ws) (act s i (after s i ws) st t r) ≡ Some a → (h : Standing s k i (passed s i ws) (record { statement = st; turns = t } ∷ r) (after s i ws).variables (front_one st (has_turned t) (bare r)))
       → IsFront (record { statement = left st again; path = h.path }) h.path (front_one st (has_turned t) (bare r) h.turns) → Seen s k i a
   seen_at again ws a st t r fair front e h f =
       let w = touch-item i (after s i ws) (act s i (after s i ws) st t r) a e in
@@ -82,7 +82,7 @@ module _ (s : Setup) (k : Notes) (sound : IsSound s) (shown : Shown s k) (i : �
         epoch = w.1;
       }
 
-  seen_by : (ws : List ℤ) (a : Access) (st : Statement) (t : ℕ) (r : List Entry) → IsHonest s k.contents i ws → HonestFront s k.contents i st (after s i ws).variables (after s i ws).answers → touch i (after s i ws) (act s i (after s i ws) st t r) ≡ Some a → Standing s k i (passed s i ws) (record { statement = st; turns = t } ∷ r) (after s i ws).variables (front_one st (has_turned t) (bare r)) → Seen s k i a
+  seen_by : (ws : List ℤ) (a : Access) (st : Statement) (t : ℕ) (r : List Entry) → IsHonest s k.contents i ws → HonestFront s k.contents i (trail (after s i ws).left) st (after s i ws).variables (after s i ws).answers → touch i (after s i ws) (act s i (after s i ws) st t r) ≡ Some a → Standing s k i (passed s i ws) (record { statement = st; turns = t } ∷ r) (after s i ws).variables (front_one st (has_turned t) (bare r)) → Seen s k i a
   seen_by ws a (Set m x e) t r fair front h p = seen_at (has_turned t) ws a (Set m x e) t r fair front h p (inl refl)
   seen_by ws a (Store m y site x e) t r fair front h p = seen_at (has_turned t) ws a (Store m y site x e) t r fair front h p (inl refl)
   seen_by ws a (If m e yeses noes) t r fair front h p = seen_at (has_turned t) ws a (If m e yeses noes) t r fair front h p (inl refl)

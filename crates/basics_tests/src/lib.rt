@@ -1,7 +1,7 @@
 //! Section: Tests. Promises nothing; it holds tests of crates of other sections, and nothing stands on it.
 //!
-//! The tests of `words`, `lines`, `linear`, `cut_proof`, `domain`, `loop_bounds`, `board`, `houdini` and `write_log`, so that none of
-//! these is proved twice.
+//! The tests of `words`, `lines`, `linear`, `cut_proof`, `domain`, `loop_bounds`, `work_item`, `board`, `houdini` and `write_log`, so that
+//! none of these is proved twice.
 #![tactic(auto)]
 
 #[cfg(test)]
@@ -30,6 +30,8 @@ mod loop_bounds_tests;
 mod making;
 #[cfg(test)]
 mod product_tests;
+#[cfg(test)]
+mod shift_tests;
 #[cfg(test)]
 mod tables;
 #[cfg(test)]

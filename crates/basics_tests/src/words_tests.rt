@@ -5,8 +5,8 @@ ghost use Rattle.words.specs.View.{kind_of};
 use std::fmt::Write;
 use std::test::Fail;
 use words::{
-    Fault, Gate, Kind, Moment, Open, Word, add, bit_and, bit_or, bit_xor, convert, div, less, mul,
-    neg, not, rem, shl, shr, sub,
+    Fault, Gate, Kind, Moment, Open, Word, add, bit_and, bit_or, bit_xor, convert, count_of, div,
+    less, mul, neg, not, rem, shift_left, shift_right, shl, shr, sub,
 };
 
 // `a b: ` and what `+ - * / % & | ^ <` give.
@@ -56,6 +56,46 @@ const UINTS: &str = "
 2147483647: 2147483649 2147483648 2147483647 2147483647 2147483647 4294967294 2147483648 2147483647 1073741823 0
 2147483648: 2147483648 2147483647 F2 2147483648 2147483648 0 0 2147483648 1073741824 1
 4294967295: 1 0 F2 4294967295 4294967295 4294967294 2147483648 4294967295 2147483647 1";
+
+// `a b: ` and what `<<` and `>>` by a word give.
+const INT_SHIFTS: &str = "
+-7 0: -7 -7
+-7 1: -14 -4
+-7 31: -2147483648 -1
+-7 37: -224 -1
+-7 -1: -2147483648 -1
+7 0: 7 7
+7 1: 14 3
+7 31: -2147483648 0
+7 37: 224 0
+7 -1: -2147483648 0
+2147483647 0: 2147483647 2147483647
+2147483647 1: -2 1073741823
+2147483647 31: -2147483648 0
+2147483647 37: -32 67108863
+2147483647 -1: -2147483648 0
+-2147483648 0: -2147483648 -2147483648
+-2147483648 1: 0 -1073741824
+-2147483648 31: 0 -1
+-2147483648 37: 0 -67108864
+-2147483648 -1: 0 -1";
+
+const UINT_SHIFTS: &str = "
+1 0: 1 1
+1 1: 2 0
+1 31: 2147483648 0
+1 37: 32 0
+1 -1: 2147483648 0
+2147483648 0: 2147483648 2147483648
+2147483648 1: 0 1073741824
+2147483648 31: 0 1
+2147483648 37: 0 67108864
+2147483648 -1: 0 1
+4294967295 0: 4294967295 4294967295
+4294967295 1: 4294967294 2147483647
+4294967295 31: 2147483648 1
+4294967295 37: 4294967264 134217727
+4294967295 -1: 2147483648 1";
 
 fn tell(text: &mut String, answers: &[Result<Word, Fault>]) -> Result<(), Fail> {
     for answer in answers {
@@ -131,6 +171,30 @@ fn tell_uints(text: &mut String) -> Result<(), Fail> {
     Ok(())
 }
 
+fn tell_shift(text: &mut String, a: Word, b: i32) -> Result<(), Fail> {
+    let count = count_of(Word::Int(b));
+    write!(text, "\n{} {b}:", a.value())?;
+    tell(text, &[Ok(shift_left(a, count)), Ok(shift_right(a, count))])
+}
+
+fn tell_int_shifts(text: &mut String) -> Result<(), Fail> {
+    for a in [-7, 7, i32::MAX, i32::MIN] {
+        for b in [0, 1, 31, 37, -1] {
+            tell_shift(text, Word::Int(a), b)?;
+        }
+    }
+    Ok(())
+}
+
+fn tell_uint_shifts(text: &mut String) -> Result<(), Fail> {
+    for a in [1, 2147483648, u32::MAX] {
+        for b in [0, 1, 31, 37, -1] {
+            tell_shift(text, Word::Uint(a), b)?;
+        }
+    }
+    Ok(())
+}
+
 #[test]
 fn pairs(rt: HostRuntime) -> Result<(), Fail> {
     let mut text = String::new(rt.alloc());
@@ -150,6 +214,17 @@ fn singles(rt: HostRuntime) -> Result<(), Fail> {
     text.clear();
     tell_uints(&mut text)?;
     assert_eq!(rt; text.as_str(), UINTS);
+    Ok(())
+}
+
+#[test]
+fn shifts(rt: HostRuntime) -> Result<(), Fail> {
+    let mut text = String::new(rt.alloc());
+    tell_int_shifts(&mut text)?;
+    assert_eq!(rt; text.as_str(), INT_SHIFTS);
+    text.clear();
+    tell_uint_shifts(&mut text)?;
+    assert_eq!(rt; text.as_str(), UINT_SHIFTS);
     Ok(())
 }
 

@@ -72,7 +72,7 @@ pub fn slot_of(symbol: Symbol) -> Option<usize> {
 }
 
 /// The form has few terms, and numbers that are not too large.
-fn is_small(form: &Form) -> bool {
+pub fn is_small(form: &Form) -> bool {
     form.terms().len() <= TERMS
         && form.constant_part().unsigned_abs() <= CONSTANT
         && form

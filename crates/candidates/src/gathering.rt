@@ -1,10 +1,13 @@
 //! What is told of places, gathered.
 
-use crate::fact_lines::fact_at;
+use crate::fact_lines::{fact_at, is_small, sees};
 use crate::shelf::Shelf;
 use guesses::{Candidate, Line, Sight, has_product, reduced, try_difference, try_multiple};
 use linear::Form;
 use std::alloc::{AllocError, Global};
+
+/// The rank of what is tried last.
+pub const LAST_TRIES: u32 = 6;
 
 /// The places, whether their walk is the wide one, what is known anyway, and what is told of them so far.
 #[derive(Drop)]
@@ -79,6 +82,33 @@ impl<'a> Gathering<'a> {
         self.add_fact(place, form, rank)?;
         match try_multiple(self.alloc, form, -1)? {
             Some(opposite) => self.add_fact(place, &opposite, rank),
+            None => Ok(()),
+        }
+    }
+
+    /// A fact of a place that is tried last, if the place has its symbols.
+    pub fn add_last(&mut self, place: usize, form: Form) -> Result<(), AllocError> {
+        let is_seen = self
+            .sights
+            .get(place)
+            .is_some_and(|sight| sees(sight, &form));
+        if is_seen && !form.terms().is_empty() && is_small(&form) {
+            self.add_line(place, Line::Fact(form), LAST_TRIES)
+        } else {
+            Ok(())
+        }
+    }
+
+    /// A form is 0 at a place, which is tried last: two facts.
+    pub fn add_last_zero(&mut self, place: usize, form: &Form) -> Result<(), AllocError> {
+        if let Some(form) = reduced(self.alloc, form)? {
+            self.add_last(place, form)?;
+        }
+        let Some(opposite) = try_multiple(self.alloc, form, -1)? else {
+            return Ok(());
+        };
+        match reduced(self.alloc, &opposite)? {
+            Some(form) => self.add_last(place, form),
             None => Ok(()),
         }
     }

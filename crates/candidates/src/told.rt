@@ -5,12 +5,14 @@ use crate::courses::Courses;
 use crate::drifts::tell_drifts;
 use crate::flags::tell_flags;
 use crate::form_strides::tell_by_forms;
+use crate::gains::tell_gains;
 use crate::gathering::Gathering;
 use crate::growth::tell_growth;
 use crate::leaf_lines::tell_leaf;
 use crate::naming::Naming;
 use crate::paces::tell_paces;
 use crate::single_values::{Given, given_values};
+use crate::squares::tell_squares;
 use crate::stride_lines::{all_strides, tell_strides};
 use crate::turns::sure_steps;
 use crate::weakening::tell_weaker;
@@ -52,7 +54,7 @@ fn tell_leaves(
     Ok(courses)
 }
 
-/// The candidates of ranks 0 to 3, each once, that the ends of all paths tell of a walk which takes each claim as shown, and by how much
+/// The candidates of ranks 0 to 3, and of wide walks those that are tried last, each once, that the ends of all paths tell of a walk which takes each claim as shown, and by how much
 /// variables step. What is known of each launch and item is not said again; variables are `uint` by their slots. Multiples of forms are
 /// told of wide walks alone.
 pub fn guess_told(
@@ -76,6 +78,10 @@ pub fn guess_told(
     tell_drifts(&mut told, &courses, leaves, values.as_slice())?;
     tell_paces(&mut told, &courses, leaves)?;
     told.add_unreached()?;
+    if is_wide {
+        tell_squares(&mut told, leaves, namings.as_slice())?;
+        tell_gains(&mut told, &courses, leaves)?;
+    }
     let mut strides = all_strides(alloc, &courses)?;
     let more = sure_steps(alloc, sights, leaves, values.as_slice(), known)?;
     strides.extend_from_slice(more.as_slice())?;

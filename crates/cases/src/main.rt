@@ -33,6 +33,7 @@ mod play;
 mod sheet;
 mod spots;
 mod stalled;
+mod unreckoned_kernels;
 
 use parts::{Asked, Part, push_part};
 use std::process::ExitCode;

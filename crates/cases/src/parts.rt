@@ -14,6 +14,7 @@ use crate::noted::{push_placed, push_site};
 use crate::play::{push_found, push_played};
 use crate::spots::push_parsed;
 use crate::stalled::push_steered;
+use crate::unreckoned_kernels::push_unreckoned;
 use certificate::error::CertError;
 use certificate::{Certificate, read_wide, write, write_one, write_wide};
 use launch::launches::Launch;
@@ -70,6 +71,8 @@ pub enum Part {
     Held,
     /// `same FILE FILE`: nothing, where two files have the same bytes.
     Same,
+    /// `unreckoned`: whether kernels with an operation that is not reckoned are run, and whether it decides something.
+    Unreckoned,
 }
 
 pub fn part_of(word: &str) -> Option<Part> {
@@ -93,6 +96,7 @@ pub fn part_of(word: &str) -> Option<Part> {
         "guesses" => Some(Part::Guesses),
         "held" => Some(Part::Held),
         "same" => Some(Part::Same),
+        "unreckoned" => Some(Part::Unreckoned),
         _ => None,
     }
 }
@@ -277,6 +281,7 @@ pub fn push_part<R: Threads + Wait + Sync>(
         Part::Guesses => push_guesses(rt, alloc, out, asked.first, asked.second, false),
         Part::Held => push_guesses(rt, alloc, out, asked.first, asked.second, true),
         Part::Same => push_compared(out, asked.first, asked.second),
+        Part::Unreckoned => push_unreckoned(alloc, out),
         _ => push_with_kernel(rt, alloc, out, asked),
     }
 }

@@ -27,7 +27,7 @@ const CHANCES: u32 = 12;
 /// In how many rounds guesses that are settled once more do not fall with others.
 const PATIENCE: u32 = 60;
 
-/// The rank of an attempt with the least menu alone, behind those of all guesses.
+/// The rank of an attempt with the least menu alone, behind those of all guesses but the ones that are tried last.
 pub const LEAST_MENU: u32 = 5;
 
 /// How an attempt ends: with a certificate, or with loops whose rankings are not shown, and what is not: all of it, or the claims and the
@@ -66,7 +66,8 @@ fn push_new(all: &mut Vec<Candidate>, more: Vec<Candidate>) -> Result<(), AllocE
     Ok(())
 }
 
-/// The guesses up to a rank that no run refutes: those that paths, runs and the text tell; or the least menu alone.
+/// The guesses up to a rank that no run refutes: those that paths, runs and the text tell, the text only where nothing is tried last; or
+/// the least menu alone.
 fn guesses<W: Watcher>(
     alloc: Global,
     matter: &Matter<'_, W>,
@@ -94,7 +95,7 @@ fn guesses<W: Watcher>(
         let more = told_by_runs(alloc, core, sights, observed)?;
         push_new(&mut all, unrefuted(alloc, more, observed, rank)?)?;
     }
-    if rank >= 4 {
+    if rank == 4 {
         let more = guess_plainly(alloc, core, sights, rankings)?;
         push_new(&mut all, unrefuted(alloc, more, observed, rank)?)?;
     }

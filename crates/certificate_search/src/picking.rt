@@ -1,5 +1,6 @@
 //! Which guesses are settled: at most 512 at a time.
 
+use candidates::LAST_TRIES;
 use guess_walk::may_be_said;
 use guesses::{Candidate, Line};
 use linear::Form;
@@ -10,7 +11,7 @@ use std::alloc::{AllocError, Global};
 pub const MOST: usize = 512;
 
 /// The highest rank of a guess.
-const LAST: u32 = 4;
+const LAST: u32 = LAST_TRIES;
 
 /// Two guesses bound the same terms at one place, and the first one's bound is tighter.
 fn is_tighter(one: &Candidate, than: &Candidate) -> bool {

@@ -44,24 +44,49 @@ pub fn chosen(
     Ok(rankings)
 }
 
-/// The rankings of one loop that no run refutes; the first one where all are.
-fn unrefuted(alloc: Global, options: Options, observed: &Observed) -> Result<Options, AllocError> {
-    let Options { number, rankings } = options;
+/// The rankings of one loop that no run refutes.
+fn standing(
+    alloc: Global,
+    options: &Options,
+    observed: &Observed,
+) -> Result<Vec<Ranking>, AllocError> {
     let mut kept = Vec::new(alloc);
-    for ranking in rankings.as_slice() {
+    for ranking in options.rankings.as_slice() {
         if !observed.refutes_ranking(ranking) {
             kept.push(again(alloc, ranking)?)?;
         }
     }
+    Ok(kept)
+}
+
+/// The rankings of one loop that no run refutes; the first one where all are.
+fn unrefuted(alloc: Global, options: Options, observed: &Observed) -> Result<Options, AllocError> {
+    let mut kept = standing(alloc, &options, observed)?;
     if kept.is_empty() {
-        if let Some(first) = rankings.first() {
+        if let Some(first) = options.rankings.first() {
             kept.push(again(alloc, first)?)?;
         }
     }
     Ok(Options {
-        number,
+        number: options.number,
         rankings: kept,
     })
+}
+
+/// The options of each loop without the rankings that a run refutes, even where it refutes all.
+pub fn all_standing(
+    alloc: Global,
+    options: &[Options],
+    observed: &Observed,
+) -> Result<Vec<Options>, AllocError> {
+    let mut all = Vec::new(alloc);
+    for one in options {
+        all.push(Options {
+            number: one.number,
+            rankings: standing(alloc, one, observed)?,
+        })?;
+    }
+    Ok(all)
 }
 
 /// The options of each loop without the rankings that a run refutes.
@@ -76,6 +101,35 @@ pub fn all_unrefuted(
         kept.push(one)?;
     }
     Ok(kept)
+}
+
+/// Copies of rankings behind others.
+fn push_again(alloc: Global, all: &mut Vec<Ranking>, more: &[Ranking]) -> Result<(), AllocError> {
+    for ranking in more {
+        all.push(again(alloc, ranking)?)?;
+    }
+    Ok(())
+}
+
+/// The rankings of each loop that are tried last, and behind them the others.
+pub fn last_tried(
+    alloc: Global,
+    last: &[Options],
+    options: &[Options],
+) -> Result<Vec<Options>, AllocError> {
+    let mut all = Vec::new(alloc);
+    for one in options {
+        let mut rankings = Vec::new(alloc);
+        if let Some(first) = last.iter().find(|other| other.number == one.number) {
+            push_again(alloc, &mut rankings, first.rankings.as_slice())?;
+        }
+        push_again(alloc, &mut rankings, one.rankings.as_slice())?;
+        all.push(Options {
+            number: one.number,
+            rankings,
+        })?;
+    }
+    Ok(all)
 }
 
 /// Runs refute each ranking of a loop that has some.

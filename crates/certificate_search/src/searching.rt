@@ -6,24 +6,26 @@ use crate::forks::{Order, order_of};
 use crate::hoping::{Hoped, hope};
 use crate::missing::Missing;
 use crate::progress::{Course, Watcher};
-use crate::ranked::{advance, all_unrefuted, chosen, is_hopeless};
-use candidates::guess_told;
+use crate::ranked::{advance, all_standing, all_unrefuted, chosen, is_hopeless, last_tried};
+use candidates::{LAST_TRIES, Told, guess_told};
 use certificate::Certificate;
 use cut_search::Memory;
 use facts::WalkError;
 use guess_walk::{Names, Subject, names_of};
-use solo_runs::observe;
+use solo_runs::{Observed, observe};
 use std::alloc::{AllocError, Global};
 use std::thread::Threads;
-use text_guesses::{Options, guess_rankings};
+use text_guesses::{Options, guess_rankings, guess_weighted};
 use walk::FindError;
 
-/// The ways in which loops may end, whether runs refute all of some loop, and whether there is a place but the entry to guess at.
+/// The ways in which loops may end, whether runs refute all of some loop, and whether there is a place but the entry to guess at; and the
+/// ways that are tried last, if there is something that is.
 #[derive(Drop)]
 struct Ways {
     options: Vec<Options>,
     is_hopeless: bool,
     has_guesses: bool,
+    last: Option<Vec<Options>>,
 }
 
 /// A first walk, with the rankings that the kernel's text tells.
@@ -44,22 +46,44 @@ fn walk_first<R: Threads + Sync>(
     }
 }
 
-/// How loops may end, by what the kernel's text and a walk tell.
-fn options_of(
-    alloc: Global,
-    subject: &Subject<'_>,
-    hoped: &Hoped,
-) -> Result<Vec<Options>, AllocError> {
-    let told = guess_told(
+/// What a walk tells.
+fn told_by(alloc: Global, subject: &Subject<'_>, hoped: &Hoped) -> Result<Told, AllocError> {
+    guess_told(
         alloc,
         hoped.sights.as_slice(),
         hoped.leaves.as_slice(),
         hoped.known.as_slice(),
         hoped.unsigned.as_slice(),
         subject.is_wide,
-    )?;
-    let strides = told.strides.as_slice();
-    guess_rankings(alloc, subject.typed.core(), subject.is_wide, strides)
+    )
+}
+
+/// The ways in which loops may end that are tried last, where no run refutes them, and behind them those without that a run refutes; none
+/// where nothing is tried last, neither a way nor a guess.
+fn last_of(
+    alloc: Global,
+    subject: &Subject<'_>,
+    told: &Told,
+    options: &[Options],
+    observed: &Observed,
+) -> Result<Option<Vec<Options>>, AllocError> {
+    if !subject.is_wide {
+        return Ok(None);
+    }
+    let weighted = guess_weighted(alloc, subject.typed.core())?;
+    let weighted = all_standing(alloc, weighted.as_slice(), observed)?;
+    let has_ways = weighted
+        .iter()
+        .any(|one| !one.rankings.as_slice().is_empty());
+    let has_guesses = told
+        .candidates
+        .iter()
+        .any(|one| one.rank == LAST_TRIES && !observed.refutes(one));
+    if !has_ways && !has_guesses {
+        return Ok(None);
+    }
+    let last = last_tried(alloc, weighted.as_slice(), options)?;
+    Ok(Some(last))
 }
 
 /// How loops may end, without the ways that runs refute.
@@ -72,15 +96,19 @@ fn find_ways<R: Threads + Sync>(
     memory: &mut Memory,
 ) -> Result<Ways, SearchError> {
     let hoped = walk_first(rt, alloc, workers, subject, names, memory)?;
-    let options = options_of(alloc, subject, &hoped)?;
+    let core = subject.typed.core();
+    let told = told_by(alloc, subject, &hoped)?;
+    let options = guess_rankings(alloc, core, subject.is_wide, told.strides.as_slice())?;
     let sights = hoped.sights.as_slice();
-    let observed = observe(alloc, subject.typed.core(), subject.conditions, sights, &[])?;
+    let observed = observe(alloc, core, subject.conditions, sights, &[])?;
     let is_hopeless = is_hopeless(options.as_slice(), &observed);
     let options = all_unrefuted(alloc, options, &observed)?;
+    let last = last_of(alloc, subject, &told, options.as_slice(), &observed)?;
     Ok(Ways {
         options,
         is_hopeless,
         has_guesses: hoped.sights.len() > 1,
+        last,
     })
 }
 
@@ -132,7 +160,10 @@ struct Stage<'a> {
     choices: u32,
 }
 
-/// The stages of a search: guesses of the ranks up to 2, 3 and 4, each with at most eight choices of rankings, and last the least menu
+/// With how many choices of rankings guesses are tried last.
+const LAST_CHOICES: u32 = 3;
+
+/// The stages of a search: guesses of the ranks up to 2, 3 and 4, each with at most eight choices of rankings, and then the least menu
 /// alone, with the first one.
 fn stage_of(options: &[Options], rank: u32) -> Stage<'_> {
     Stage {
@@ -176,6 +207,53 @@ fn try_stage<R: Threads + Sync, W: Watcher>(
     Ok(None)
 }
 
+/// A certificate by guesses rank by rank, and by the least menu; none where nothing shows all.
+fn try_stages<R: Threads + Sync, W: Watcher>(
+    rt: &R,
+    alloc: Global,
+    matter: &Matter<'_, W>,
+    ways: &Ways,
+    memory: &mut Memory,
+    shortfall: &mut Shortfall,
+) -> Result<Option<Certificate>, SearchError> {
+    let options = ways.options.as_slice();
+    for rank in 2..LEAST_MENU + 1 {
+        // The guesses up to rank 4 are those of the least menu, too: where all were tried, it shows no more.
+        if rank == LEAST_MENU && !shortfall.has_more {
+            return Ok(None);
+        }
+        let stage = stage_of(options, rank);
+        let found = try_stage(rt, alloc, matter, stage, memory, shortfall)?;
+        if found.is_some() || ways.is_hopeless || !ways.has_guesses || memory.is_spent() {
+            return Ok(found);
+        }
+    }
+    Ok(None)
+}
+
+/// A certificate by what is tried last; none where that shows no more, or nothing is.
+fn try_last<R: Threads + Sync, W: Watcher>(
+    rt: &R,
+    alloc: Global,
+    matter: &Matter<'_, W>,
+    ways: &Ways,
+    memory: &mut Memory,
+    shortfall: &mut Shortfall,
+) -> Result<Option<Certificate>, SearchError> {
+    let Some(options) = &ways.last else {
+        return Ok(None);
+    };
+    if memory.is_spent() {
+        return Ok(None);
+    }
+    let stage = Stage {
+        options: options.as_slice(),
+        rank: LAST_TRIES,
+        choices: LAST_CHOICES,
+    };
+    try_stage(rt, alloc, matter, stage, memory, shortfall)
+}
+
 /// A certificate, with the names of the kernel.
 fn search_named<R: Threads + Sync, W: Watcher>(
     rt: &R,
@@ -191,28 +269,19 @@ fn search_named<R: Threads + Sync, W: Watcher>(
         names,
         course: course.in_attempt(1),
     };
-    let options = ways.options.as_slice();
     let mut shortfall = Shortfall {
         least: None,
         fewest: usize::MAX,
         attempts: 0,
         has_more: false,
     };
-    for rank in 2..LEAST_MENU + 1 {
-        // The guesses up to rank 4 are those of the least menu, too: where all were tried, it shows no more.
-        if rank == LEAST_MENU && !shortfall.has_more {
-            return Err(shortfall.told());
-        }
-        let stage = stage_of(options, rank);
-        let found = try_stage(rt, alloc, &matter, stage, memory, &mut shortfall)?;
-        if let Some(certificate) = found {
-            return Ok(certificate);
-        }
-        if ways.is_hopeless || !ways.has_guesses || memory.is_spent() {
-            return Err(shortfall.told());
-        }
+    if let Some(certificate) = try_stages(rt, alloc, &matter, &ways, memory, &mut shortfall)? {
+        return Ok(certificate);
     }
-    Err(shortfall.told())
+    match try_last(rt, alloc, &matter, &ways, memory, &mut shortfall)? {
+        Some(certificate) => Ok(certificate),
+        None => Err(shortfall.told()),
+    }
 }
 
 /// The search ended since a walk has too many paths or obligations.

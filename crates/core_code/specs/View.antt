@@ -16,7 +16,9 @@ use Rattle.core_code.specs.declared.tree.Function.{Function}
 use Rattle.core_code.specs.declared.tree.Function.TheVariants as functions
 use Rattle.core_code.specs.declared.tree.UnaryOperator.{UnaryOperator}
 use Rattle.core_code.specs.declared.tree.UnaryOperator.TheVariants as unary
-use Rattle.core_code.specs.declared.tree.Term.{Term, Literal, Variable, Id, Load', Unary', Binary', Convert', Compare', Not', And', Or', Select', Minimum', Maximum'}
+use Rattle.core_code.specs.declared.tree.Direction.{Direction}
+use Rattle.core_code.specs.declared.tree.Direction.TheVariants as directions
+use Rattle.core_code.specs.declared.tree.Term.{Term, Literal, Variable, Id, Load', Unary', Binary', Convert', Compare', Not', And', Or', Select', Minimum', Maximum', Shift', Within', Opaque'}
 use Rattle.core_code.specs.declared.tree.Statement.{Statement, Set, Store, If', Loop', Barrier, Return, Break, Continue, Row_of-Statement, end_of-Statement, more_of-Statement}
 use Rattle.core_code.specs.declared.tree.LocalArray.{LocalArray}
 use Rattle.core_code.specs.declared.tree.Core.{Core}
@@ -63,6 +65,10 @@ unary_operator unary.Complement = word.Complement
 unary_operator (unary.ShiftLeft by) = word.ShiftLeft by
 unary_operator (unary.ShiftRight by) = word.ShiftRight by
 
+abbrev pub direction : Direction → word.Direction
+direction directions.Leftward = word.Leftward
+direction directions.Rightward = word.Rightward
+
 abbrev pub term : Term → core.Term
 term (Literal k n) = core.Literal (kind k) (pos n)
 term (Variable slot) = core.Variable slot
@@ -78,6 +84,9 @@ term (Or' p left q right) = core.Or (term left) (term right)
 term (Select' p test q taken r skipped) = core.Select (term test) (term taken) (term skipped)
 term (Minimum' p left q right) = core.Minimum (term left) (term right)
 term (Maximum' p left q right) = core.Maximum (term left) (term right)
+term (Shift' d k p value q count) = core.Shift (direction d) (kind k) (term value) (term count)
+term (Within' s n p index) = core.Within (site s) n (term index)
+term (Opaque' n at k p first q second r third) = core.Opaque n at (kind k) (term first) (term second) (term third)
 
 abbrev mutual
   pub statement : Statement → core.Statement

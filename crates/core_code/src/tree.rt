@@ -102,7 +102,15 @@ pub enum UnaryOperator {
     ShiftRight(u32),
 }
 
-/// An expression; an operator has the kind to which it brings its operands.
+/// Which way bits are shifted.
+#[derive(Clone, Copy)]
+pub enum Direction {
+    Leftward,
+    Rightward,
+}
+
+/// An expression; an operator has the kind to which it brings its operands. No text has a shift by a term, an index that has to lie
+/// within a number of elements, or an operation that is not reckoned.
 #[derive(Drop)]
 pub enum Term {
     Literal {
@@ -169,6 +177,25 @@ pub enum Term {
     Maximum {
         left: Box<Term>,
         right: Box<Term>,
+    },
+    Shift {
+        direction: Direction,
+        kind: Kind,
+        value: Box<Term>,
+        count: Box<Term>,
+    },
+    Within {
+        site: Site,
+        length: u32,
+        index: Box<Term>,
+    },
+    Opaque {
+        operation: u32,
+        place: u32,
+        kind: Kind,
+        first: Box<Term>,
+        second: Box<Term>,
+        third: Box<Term>,
     },
 }
 

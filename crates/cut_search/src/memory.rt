@@ -27,7 +27,7 @@ const POINTS: usize = 24;
 
 /// How much work is done before no more is begun: so many facts are asked about, a search counts as many times the facts of its list, and
 /// what products take is counted too.
-const WORK: u64 = 18_000_000;
+const WORK: u64 = 9_000_000;
 
 /// How many times the facts of its list a search counts.
 const SEARCH: u64 = 20;

@@ -98,6 +98,15 @@ fn goes_with_each(pairs: &[Couple], symbol: Symbol, fact: &Form) -> bool {
     true
 }
 
+/// The fact says that a symbol is at least a number above 0, which is not too large for products.
+fn is_low_end(fact: &Form) -> bool {
+    let constant = fact.constant_part();
+    match fact.terms() {
+        [only] => { only.coefficient == 1 && constant < 0 && constant.unsigned_abs() < LARGE }
+        _ => false,
+    }
+}
+
 /// Which symbols make products at hand with which, and from which constant on a fact is not multiplied.
 #[derive(Clone, Copy)]
 pub struct Multiplied<'a> {
@@ -111,7 +120,7 @@ impl<'a> Multiplied<'a> {
         let Some(first) = fact.terms().first() else {
             return false;
         };
-        if fact.constant_part().unsigned_abs() >= self.large {
+        if fact.constant_part().unsigned_abs() >= self.large && !is_low_end(fact) {
             return false;
         }
         for couple in self
@@ -172,10 +181,14 @@ fn is_implied(facts: &[Form], place: usize, fact: &Form) -> bool {
     false
 }
 
-/// From which constant on a fact is not multiplied that is half of an equality, as of an argument that has one value, or is not.
+/// From which constant on a fact is not multiplied: a later one where it is half of an equality, as of an argument that has one value, or
+/// says that a symbol is at least a number. (Where an argument may be 1, its low end is multiplied; so it is where the argument is larger.)
 fn limit_of(fact: &Form, hashes: &[u64], large: u64) -> u64 {
     let is_small = fact.constant_part().unsigned_abs() < large;
-    if !is_small && hashes.binary_search(&hash_of_opposite(fact)).is_ok() {
+    if is_small {
+        return large;
+    }
+    if is_low_end(fact) || hashes.binary_search(&hash_of_opposite(fact)).is_ok() {
         LARGE
     } else {
         large

@@ -13,6 +13,7 @@ ghost use Rattle.diagnostics.specs.Confirming.{IsConfirmed};
 ghost use Rattle.findings.specs.View.{finding as finding_seen};
 ghost use Rattle.diagnostics.specs.Replays.{IsAfter, finding_of};
 ghost use Rattle.findings.specs.Visits.{IsSighting};
+ghost use Rattle.unreckoned.specs.Deciding.{decides_nothing};
 
 use crate::turn::Turn;
 use core_code::tree::Core;
@@ -21,6 +22,7 @@ use launch::launches::Launch;
 use machine::world::{Applied, Event, World};
 use std::alloc::{AllocError, Global};
 use types::typed::Typed;
+use unreckoned::decides_nothing;
 use work_item::identity::{group_size, product_of};
 
 /// The most work-items of a launch that is replayed.
@@ -142,14 +144,19 @@ fn has_few_items(core: &Core, launch: &Launch) -> bool
 
 /// Replays a launch of at most 4,096 items: always a step of the first item that runs, else the release of the first group that may go on.
 /// It answers the first fault, data race or barrier divergence that comes up within 1,000,000 events, with the schedule that shows it; none
-/// says nothing.
+/// says nothing. Where what comes of an operation that is not reckoned decides something in the kernel, it answers none: other devices may
+/// do otherwise.
 #[tactic(auto, using(machine::proofs::Moves::sizes_of, machine::proofs::Moves::few_of))]
 pub fn confirm(alloc: Global, typed: &Typed, launch: &Launch) -> Result<Option<Finding>, AllocError>
     requires proper { is_proper (core_seen typed.now.1) ≡ true }
     requires fits { Fits (core_seen typed.now.1) (launch_seen launch.now) }
-    ensures { IfOk result (λ o. IfSome o (λ f. IsConfirmed (setup_of typed.now.1 launch.now) (tree_seen typed.now.0) (finding_seen f))) }
+    ensures shown { IfOk result (λ o. IfSome o (λ f. IsConfirmed (setup_of typed.now.1 launch.now) (tree_seen typed.now.0) (finding_seen f))) }
+    ensures alike { IfOk result (λ o. IfSome o (λ _. decides_nothing (core_seen typed.now.1) ≡ true)) }
 {
     if !has_few_items(typed.core(), launch) {
+        return Ok(None);
+    }
+    if !decides_nothing(alloc, typed.core())? {
         return Ok(None);
     }
     let mut world = World::open(alloc, typed, launch)?;

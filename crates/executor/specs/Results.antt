@@ -1,9 +1,10 @@
 -- What a run answers.
-use Rattle.std.specs.Prelude.{◌≡◌, ◌≤◌, ◌<◌, ◌⊎◌, ℕ, Result, Ok, Err, Some, None}
+use Rattle.std.specs.Prelude.{◌≡◌, ◌≤◌, ◌<◌, ◌⊎◌, ℕ, true, false, Result, Ok, Err, Some, None}
 use Rattle.semantics.specs.Launch as launches
 use Rattle.launch.specs.Unmet.{unmet}
 use Rattle.launch.specs.declared.conditions.Conditions.{Conditions}
 use Rattle.launch.specs.declared.launches.Buffers.{Buffers}
+use Rattle.work_item.specs.Reckoned.{is_reckoned}
 use Rattle.executor.specs.declared.error.RunError.{RunError}
 use Rattle.executor.specs.declared.error.RunError.TheVariants as errors
 
@@ -13,9 +14,11 @@ AreWorkers n = (1 ≤ n) × (n ≤ 64)
 abbrev pub AreNoWorkers : ℕ → Type 0
 AreNoWorkers n = (n ≡ 0) ⊎ (64 < n)
 
--- the first condition that is not met, else too few or too many workers, else buffers or want of memory
-abbrev pub Answers : Conditions → launches.Launch → ℕ → Result Buffers RunError → Type 0
-Answers c l workers (Ok b) = (unmet c l ≡ None) × AreWorkers workers
-Answers c l workers (Err (errors.Condition e)) = unmet c l ≡ Some e.line
-Answers c l workers (Err errors.Workers) = (unmet c l ≡ None) × AreNoWorkers workers
-Answers c l workers (Err errors.Memory) = (unmet c l ≡ None) × AreWorkers workers
+-- whether an operation that is not reckoned stands in the kernel; then the first condition that is not met, else too few or too many
+-- workers, else buffers or want of memory
+abbrev pub Answers : launches.Kernel → Conditions → launches.Launch → ℕ → Result Buffers RunError → Type 0
+Answers k c l workers (Ok b) = (is_reckoned k ≡ true) × (unmet c l ≡ None) × AreWorkers workers
+Answers k c l workers (Err errors.Unreckoned) = is_reckoned k ≡ false
+Answers k c l workers (Err (errors.Condition e)) = (is_reckoned k ≡ true) × (unmet c l ≡ Some e.line)
+Answers k c l workers (Err errors.Workers) = (is_reckoned k ≡ true) × (unmet c l ≡ None) × AreNoWorkers workers
+Answers k c l workers (Err errors.Memory) = (is_reckoned k ≡ true) × (unmet c l ≡ None) × AreWorkers workers

@@ -6,7 +6,8 @@ use launch::error::ConditionError;
 use std::alloc::{AllocError, AllocFailed};
 use thiserror::Error;
 
-/// The launch does not meet its conditions, or there are too few or too many workers, or want of memory.
+/// The kernel has an operation that is not reckoned, the launch does not meet its conditions, there are too few or too many workers, or
+/// want of memory.
 #[derive(Debug, Drop, Error)]
 pub enum RunError {
     #[error("{0}")]
@@ -14,6 +15,9 @@ pub enum RunError {
     /// The number of workers is not 1 to 64.
     #[error("70")]
     Workers,
+    /// An operation that is not reckoned stands in the kernel: what it gives is the device's to say.
+    #[error("71")]
+    Unreckoned,
     #[error("90")]
     Memory,
 }
@@ -28,6 +32,7 @@ impl RunError {
         match self {
             RunError::Condition(error) => error.number(),
             RunError::Workers => 70,
+            RunError::Unreckoned => 71,
             RunError::Memory => 90,
         }
     }
@@ -38,7 +43,7 @@ impl RunError {
     {
         match self {
             RunError::Condition(error) => error.place(),
-            RunError::Workers | RunError::Memory => None,
+            RunError::Workers | RunError::Unreckoned | RunError::Memory => None,
         }
     }
 }

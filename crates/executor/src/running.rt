@@ -14,6 +14,7 @@ ghost use Rattle.executor.specs.Ends.{IsResultOf, EndsEvery, HaveKinds};
 ghost use Rattle.executor.specs.Kinds.{typed};
 ghost use Rattle.executor.specs.Results.{Answers};
 
+use crate::asking::can_run_accepted;
 use crate::error::RunError;
 use crate::kinds::of_parameters;
 use cert_check::Accepted;
@@ -73,7 +74,8 @@ fn run_groups<R: Threads + Wait + Sync, G: Gate>(
 /// interleaving of all work-items that is over ends with, however many bits sizes have. Each worker has a thread of its own, but worker 1,
 /// which is the calling thread; where there are fewer groups as many are started, and a worker whose thread cannot be started is run by the
 /// one before it in its turn, with the same answers. `gate` is told which groups a worker has claimed and has run, and that it ends, and
-/// changes no answer. Each word that is answered has the kind of its buffer's parameter, whatever kind the launch's word has.
+/// changes no answer. Each word that is answered has the kind of its buffer's parameter, whatever kind the launch's word has. A kernel with
+/// an operation that is not reckoned is refused.
 pub fn run<R: Threads + Wait + Sync, G: Gate>(
     rt: &R,
     alloc: Global,
@@ -83,13 +85,14 @@ pub fn run<R: Threads + Wait + Sync, G: Gate>(
     gate: &G,
 ) -> Result<Buffers, RunError>
     requires { Fits (core_seen (typed_of accepted.now).1) (launch_seen launch.now) }
-    ensures answers { Answers (kept accepted.now) (launch_seen launch.now) workers result }
+    ensures answers { Answers (core_seen (typed_of accepted.now).1) (kept accepted.now) (launch_seen launch.now) workers result }
     ensures value { IfOk result (λ b. (w : Width) → IsResultOf (on_device w (at_launch (core_seen (typed_of accepted.now).1) (launch_seen launch.now))) (kept accepted.now).budget (words_of b)) }
     ensures kinds { IfOk result (λ b. HaveKinds (core_seen (typed_of accepted.now).1).buffers (typed b)) }
     ensures every { IfOk result (λ b. (w : Width) → EndsEvery (on_device w (at_launch (core_seen (typed_of accepted.now).1) (launch_seen launch.now))) (words_of b)) }
     ensures meets { IfOk result (λ _. Meets (conditions_seen (kept accepted.now)) (launch_seen launch.now)) }
     ensures defined { IfOk result (λ _. (w : Width) → IsDefined (on_device w (at_launch (core_seen (typed_of accepted.now).1) (launch_seen launch.now))) (kept accepted.now).budget) }
 {
+    can_run_accepted(accepted)?;
     meets(accepted.conditions(), launch)?;
     if workers < 1 || workers > 64 {
         return Err(RunError::Workers);

@@ -35,7 +35,8 @@ fn is_at(term: &Term, wanted: Site) -> bool {
         Term::Load { site, .. }
         | Term::Unary { site, .. }
         | Term::Binary { site, .. }
-        | Term::Convert { site, .. } => *site == wanted,
+        | Term::Convert { site, .. }
+        | Term::Within { site, .. } => *site == wanted,
         _ => false,
     }
 }

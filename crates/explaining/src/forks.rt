@@ -114,7 +114,8 @@ impl<'a> Tests<'a> {
             Term::Variable { slot } => {
                 self.settled.get(*slot as usize).copied().unwrap_or(false)
             }
-            Term::Unary { of, .. } | Term::Convert { of, .. } => self.is_known(of),
+            Term::Unary { of, .. } | Term::Convert { of, .. } | Term::Within { index: of, .. } =>
+                self.is_known(of),
             Term::Binary { left, right, .. }
             | Term::Minimum { left, right }
             | Term::Maximum { left, right }
@@ -123,7 +124,10 @@ impl<'a> Tests<'a> {
                 skipped: right,
                 ..
             } => self.is_known(left) && self.is_known(right),
-            Term::Id { .. } | Term::Load { .. } => false,
+            Term::Shift { value, count, .. } => {
+                self.is_wide && self.is_known(value) && self.is_known(count)
+            }
+            Term::Id { .. } | Term::Load { .. } | Term::Opaque { .. } => false,
         }
     }
 
@@ -287,10 +291,16 @@ pub fn sides_of(tests: &Tests<'_>, test: &Term, is_whole: bool) -> Sides {
 pub fn ways_of(tests: &Tests<'_>, term: &Term) -> u64 {
     match term {
         Term::Literal { .. } | Term::Variable { .. } | Term::Id { .. } => 1,
-        Term::Load { index: of, .. } | Term::Unary { of, .. } | Term::Convert { of, .. } => {
-            ways_of(tests, of)
-        }
-        Term::Binary { left, right, .. } => {
+        Term::Load { index: of, .. }
+        | Term::Unary { of, .. }
+        | Term::Convert { of, .. }
+        | Term::Within { index: of, .. } => ways_of(tests, of),
+        Term::Binary { left, right, .. }
+        | Term::Shift {
+            value: left,
+            count: right,
+            ..
+        } => {
             let first = ways_of(tests, left);
             first.saturating_mul(ways_of(tests, right))
         }
@@ -326,6 +336,15 @@ pub fn ways_of(tests: &Tests<'_>, term: &Term) -> u64 {
             let first = ways_of(tests, left);
             let count = first.saturating_mul(ways_of(tests, right));
             count.saturating_mul(tests.ways_of_end(left, right))
+        }
+        Term::Opaque {
+            first,
+            second,
+            third,
+            ..
+        } => {
+            let count = ways_of(tests, first).saturating_mul(ways_of(tests, second));
+            count.saturating_mul(ways_of(tests, third))
         }
     }
 }
@@ -395,7 +414,9 @@ fn push_value(
     push_head(tests, part, term, is_told)?;
     match term {
         Term::Literal { .. } | Term::Variable { .. } | Term::Id { .. } => Ok(()),
-        Term::Convert { of, .. } => push_value(tests, part, of, false),
+        Term::Convert { of, .. } | Term::Within { index: of, .. } => {
+            push_value(tests, part, of, false)
+        }
         Term::Load { index: of, .. } | Term::Unary { of, .. } => {
             push_value(tests, part.operand(0), of, false)
         }
@@ -407,9 +428,24 @@ fn push_value(
         Term::Binary { left, right, .. }
         | Term::Compare { left, right, .. }
         | Term::Minimum { left, right }
-        | Term::Maximum { left, right } => {
+        | Term::Maximum { left, right }
+        | Term::Shift {
+            value: left,
+            count: right,
+            ..
+        } => {
             push_value(tests, part.operand(0), left, false)?;
             push_value(tests, part.operand(1), right, false)
+        }
+        Term::Opaque {
+            first,
+            second,
+            third,
+            ..
+        } => {
+            push_value(tests, part.operand(0), first, false)?;
+            push_value(tests, part.operand(1), second, false)?;
+            push_value(tests, part.operand(2), third, false)
         }
         Term::Select {
             test,

@@ -117,7 +117,7 @@ impl<'a> Slice<'a> {
     /// Puts into the list of terms those parts of a term on which a finding about that term depends.
     fn begin_term(&mut self, finding: &Finding, term: &'a Term) -> Result<(), AllocError> {
         match term {
-            Term::Load { site, index, .. }
+            Term::Load { site, index, .. } | Term::Within { site, index, .. }
                 if is_of_indexes(finding.kind) && is_of(finding, *site) => {
                 put(&mut self.left, index)
             }
@@ -229,7 +229,8 @@ impl<'a> Slice<'a> {
     /// A term depends on its operands, but where it is in a range whatever they are.
     fn push_operands(&mut self, term: &'a Term) -> Result<(), AllocError> {
         match term {
-            Term::Unary { of, .. } | Term::Convert { of, .. } => put(&mut self.left, of),
+            Term::Unary { of, .. } | Term::Convert { of, .. } | Term::Within { index: of, .. } =>
+                put(&mut self.left, of),
             Term::Binary {
                 operator: Operator::Add
                 | Operator::Subtract
@@ -243,7 +244,16 @@ impl<'a> Slice<'a> {
                 self.push_chosen(left)?;
                 self.push_chosen(right)
             }
-            Term::Select { taken, skipped, .. } => put_both(&mut self.left, taken, skipped),
+            Term::Select {
+                taken: one,
+                skipped: other,
+                ..
+            }
+            | Term::Shift {
+                value: one,
+                count: other,
+                ..
+            } => put_both(&mut self.left, one, other),
             _ => Ok(()),
         }
     }

@@ -57,20 +57,34 @@ fn load_in<'a>(term: &'a Term, wanted: Site) -> Option<Access<'a>>
                 load_in(index, wanted)
             }
         }
-        Term::Unary { of, .. } | Term::Convert { of, .. } | Term::Not { of } => load_in(of, wanted),
+        Term::Unary { of, .. }
+        | Term::Convert { of, .. }
+        | Term::Not { of }
+        | Term::Within { index: of, .. } => load_in(of, wanted),
         Term::Binary { left, right, .. }
         | Term::Compare { left, right, .. }
         | Term::And { left, right }
         | Term::Or { left, right }
         | Term::Minimum { left, right }
-        | Term::Maximum { left, right } => either(load_in(left, wanted), load_in(right, wanted)),
+        | Term::Maximum { left, right }
+        | Term::Shift {
+            value: left,
+            count: right,
+            ..
+        } => either(load_in(left, wanted), load_in(right, wanted)),
         Term::Select {
-            test,
-            taken,
-            skipped,
+            test: first,
+            taken: second,
+            skipped: third,
+        }
+        | Term::Opaque {
+            first,
+            second,
+            third,
+            ..
         } => either(
-            load_in(test, wanted),
-            either(load_in(taken, wanted), load_in(skipped, wanted)),
+            load_in(first, wanted),
+            either(load_in(second, wanted), load_in(third, wanted)),
         ),
         Term::Literal { .. } | Term::Variable { .. } | Term::Id { .. } => None,
     }

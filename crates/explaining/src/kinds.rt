@@ -41,11 +41,15 @@ pub fn kind_of(core: &Core, term: &Term) -> Kind {
         | Term::Id { kind, .. }
         | Term::Unary { kind, .. }
         | Term::Binary { kind, .. }
-        | Term::Convert { kind, .. } => *kind,
+        | Term::Convert { kind, .. }
+        | Term::Shift { kind, .. }
+        | Term::Opaque { kind, .. } => *kind,
         Term::Variable { slot } => kind_at(core, *slot),
         Term::Load { array, .. } => kind_in(core, *array),
         Term::Compare { .. } | Term::Not { .. } | Term::And { .. } | Term::Or { .. } => Kind::Int,
         Term::Select { taken, .. } => kind_of(core, taken),
-        Term::Minimum { left, .. } | Term::Maximum { left, .. } => kind_of(core, left),
+        Term::Minimum { left: of, .. }
+        | Term::Maximum { left: of, .. }
+        | Term::Within { index: of, .. } => kind_of(core, of),
     }
 }

@@ -76,7 +76,8 @@ fn push_operands<'a>(left: &mut Vec<&'a Term>, of: &'a Term) -> Result<(), Alloc
         Term::Load { index: of, .. }
         | Term::Unary { of, .. }
         | Term::Convert { of, .. }
-        | Term::Not { of } => put(left, of),
+        | Term::Not { of }
+        | Term::Within { index: of, .. } => put(left, of),
         Term::Binary {
             left: one,
             right: other,
@@ -102,14 +103,25 @@ fn push_operands<'a>(left: &mut Vec<&'a Term>, of: &'a Term) -> Result<(), Alloc
         | Term::Maximum {
             left: one,
             right: other,
+        }
+        | Term::Shift {
+            value: one,
+            count: other,
+            ..
         } => put_both(left, one, other),
         Term::Select {
-            test,
-            taken,
-            skipped,
+            test: first,
+            taken: second,
+            skipped: third,
+        }
+        | Term::Opaque {
+            first,
+            second,
+            third,
+            ..
         } => {
-            put(left, test)?;
-            put_both(left, taken, skipped)
+            put(left, first)?;
+            put_both(left, second, third)
         }
         Term::Literal { .. } | Term::Variable { .. } | Term::Id { .. } => Ok(()),
     }

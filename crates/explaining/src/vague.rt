@@ -2,7 +2,9 @@
 
 use crate::given::{Given, OneValue, Unbounded};
 use crate::kinds::kind_of;
-use core_code::tree::{Array, Core, Operator, Site, Space, Statement, Term, UnaryOperator};
+use core_code::tree::{
+    Array, Core, Direction, Operator, Site, Space, Statement, Term, UnaryOperator,
+};
 use std::alloc::{AllocError, Global};
 use words::Kind;
 
@@ -140,8 +142,14 @@ impl<'a> Slots<'a> {
                 dimension,
                 ..
             } => self.given.is_number(*function, *dimension),
-            Term::Unary { of, .. } | Term::Convert { of, .. } => self.is_number(of),
-            Term::Binary { left, right, .. } => self.is_number(left) && self.is_number(right),
+            Term::Unary { of, .. } | Term::Convert { of, .. } | Term::Within { index: of, .. } =>
+                self.is_number(of),
+            Term::Binary { left, right, .. }
+            | Term::Shift {
+                value: left,
+                count: right,
+                ..
+            } => self.is_number(left) && self.is_number(right),
             _ => false,
         }
     }
@@ -188,7 +196,7 @@ impl<'a> Slots<'a> {
             Term::Unary { operator, .. } => {
                 matches!(operator, UnaryOperator::Negate | UnaryOperator::Complement)
             }
-            Term::Convert { of, .. } => self.may_dip(of),
+            Term::Convert { of, .. } | Term::Within { index: of, .. } => self.may_dip(of),
             Term::Binary {
                 operator,
                 left,
@@ -201,6 +209,12 @@ impl<'a> Slots<'a> {
             Term::Select { taken, skipped, .. } => self.may_dip(taken) || self.may_dip(skipped),
             Term::Minimum { left, right } => self.may_dip(left) || self.may_dip(right),
             Term::Maximum { left, right } => self.may_dip(left) && self.may_dip(right),
+            Term::Shift {
+                direction: Direction::Rightward,
+                value,
+                ..
+            } => self.may_dip(value),
+            Term::Shift { .. } | Term::Opaque { .. } => true,
             _ => false,
         }
     }
@@ -214,7 +228,8 @@ impl<'a> Slots<'a> {
                 dimension,
                 ..
             } => self.given.one_groups(*function, *dimension),
-            Term::Unary { of, .. } | Term::Convert { of, .. } => self.one_value(of),
+            Term::Unary { of, .. } | Term::Convert { of, .. } | Term::Within { index: of, .. } =>
+                self.one_value(of),
             Term::Binary { left, right, .. } => {
                 let one = self.one_value(left);
                 self.one_of_both(left, right, one, self.one_value(right))

@@ -1,6 +1,6 @@
 -- Which overflows are of sizes: those at an operator or a conversion that gives a size.
 use Rattle.std.specs.Prelude.{◌||◌, ◌&&◌, Bool, true, false, nat_eq}
-use Rattle.semantics.specs.Core.{Site, Term, Literal, Variable, Id, Load, Unary, Binary, Convert, Compare, Not, And, Or, Select, Minimum, Maximum, Statement, Set, Store, If, Loop, Barrier, Return, Break, Continue, Statements, none, one}
+use Rattle.semantics.specs.Core.{Site, Term, Literal, Variable, Id, Load, Unary, Binary, Convert, Compare, Not, And, Or, Select, Minimum, Maximum, Shift, Within, Opaque, Statement, Set, Store, If, Loop, Barrier, Return, Break, Continue, Statements, none, one}
 use Rattle.semantics.specs.Word.{Kind, Int, Uint, Size, Fault, DivisionByZero, Overflow, OutOfBounds}
 
 abbrev pub is_size : Kind → Bool
@@ -28,6 +28,9 @@ gives_size at (Or a b) = gives_size at a || gives_size at b
 gives_size at (Select t a b) = gives_size at t || (gives_size at a || gives_size at b)
 gives_size at (Minimum a b) = gives_size at a || gives_size at b
 gives_size at (Maximum a b) = gives_size at a || gives_size at b
+gives_size at (Shift d k a b) = gives_size at a || gives_size at b
+gives_size at (Within s n i) = gives_size at i
+gives_size at (Opaque n p k a b c) = gives_size at a || (gives_size at b || gives_size at c)
 
 abbrev mutual
   pub has_size : (at : Site) → Statement → Bool

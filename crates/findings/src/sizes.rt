@@ -61,6 +61,17 @@ fn gives_size(at: Site, term: &Term) -> bool
         Term::Or { left, right } => either(gives_size(at, left), gives_size(at, right)),
         Term::Minimum { left, right } => either(gives_size(at, left), gives_size(at, right)),
         Term::Maximum { left, right } => either(gives_size(at, left), gives_size(at, right)),
+        Term::Shift { value, count, .. } => either(gives_size(at, value), gives_size(at, count)),
+        Term::Within { index, .. } => gives_size(at, index),
+        Term::Opaque {
+            first,
+            second,
+            third,
+            ..
+        } => either(
+            gives_size(at, first),
+            either(gives_size(at, second), gives_size(at, third)),
+        ),
     }
 }
 

@@ -1,10 +1,10 @@
 -- The value of a term over a memory is what its loads lead to, one by one.
 use Rattle.std.proofs.Common.{◌≡◌, ℕ, pos, List, [], ◌∷◌, Bool, true, false, not, slice_index_or, refl, sym, ap, ◌∙◌, subst, Result, Ok, Err}
 use Rattle.semantics.specs.Word.{Word, word, Fault, zero_word, calculate_unary, convert, truth, is_zero, smaller, larger, as_kind}
-use Rattle.semantics.specs.Core.{Site, Array, Term, Literal, Variable, Id, Load, Unary, Binary, Convert, Compare, Not, And, Or, Select, Minimum, Maximum}
+use Rattle.semantics.specs.Core.{Site, Array, Term, Literal, Variable, Id, Load, Unary, Binary, Convert, Compare, Not, And, Or, Select, Minimum, Maximum, Shift, Within, Opaque}
 use Rattle.semantics.specs.Setup.{Setup, identity}
 use Rattle.semantics.specs.Memory.{Memory, cell, extent, kind_at}
-use Rattle.semantics.specs.Evaluation.{Outcome, Gives, Needs, Faults, evaluate, and_then, settled, asks, load, decide, operate, compare, Index, At, Outside, within, read as answered}
+use Rattle.semantics.specs.Evaluation.{Outcome, Gives, Needs, Faults, evaluate, and_then, settled, asks, load, decide, operate, compare, shifted, inside, opaque, Index, At, Outside, within, read as answered}
 use Rattle.semantics.proofs.Words.{as_kind-in_kind, as_kind-same}
 use Rattle.semantics.proofs.LoadKinds.{element_has_kind}
 use Rattle.lanes.specs.Reckoning.{word_at}
@@ -62,7 +62,7 @@ leads-either : (s : Setup) (i : ℕ) (m : Memory) (b : Bool) (f g : List Word �
 leads-either s i m true f g o p h k = h
 leads-either s i m false f g o p h k = k
 
-pub reads : (s : Setup) (i : ℕ) (m : Memory) (vars : List Word) (e : Term) → Leads s i m (evaluate s i e vars) (read s i m vars e)
+pub reads : (s : Setup) (i : ℕ) (m : Memory) (vars : List Word) (e : Term) → Leads s i m (evaluate s i [] e vars) (read s i m vars e)
 unfolding evaluate
 reads s i m vars (Literal k z) = leads-value s i m (word k z)
 reads s i m vars (Variable x) = leads-value s i m (slice_index_or vars x zero_word)
@@ -87,3 +87,9 @@ reads s i m vars (Minimum left right) =
     leads-then s i m _ _ _ _ (reads s i m vars left) (λ a. leads-then s i m _ _ _ _ (reads s i m vars right) (λ b. leads-value s i m (smaller a b)))
 reads s i m vars (Maximum left right) =
     leads-then s i m _ _ _ _ (reads s i m vars left) (λ a. leads-then s i m _ _ _ _ (reads s i m vars right) (λ b. leads-value s i m (larger a b)))
+reads s i m vars (Shift d k value count) =
+    leads-then s i m _ _ _ _ (reads s i m vars value) (λ a. leads-then s i m _ _ _ _ (reads s i m vars count) (λ b. leads-value s i m (shifted d k a b)))
+reads s i m vars (Within site n index) =
+    leads-then s i m _ _ _ _ (reads s i m vars index) (λ k. leads-settled s i m (inside (within n k.value) k) site)
+reads s i m vars (Opaque n at k first second third) =
+    leads-then s i m _ _ _ _ (reads s i m vars first) (λ a. leads-then s i m _ _ _ _ (reads s i m vars second) (λ b. leads-then s i m _ _ _ _ (reads s i m vars third) (λ c. leads-value s i m (opaque s i [] n at k a b c))))

@@ -26,6 +26,7 @@ least_with c buffers = record {
   arguments = map word (map low c.arguments.items);
   buffers = buffers;
   fill = 0;
+  machine = launches.silent;
 }
 
 -- the larger of 0 and each length's sum

@@ -78,4 +78,5 @@ launch l = record {
   arguments = map word l.arguments.items;
   buffers = map buffer l.buffers.words.items;
   fill = l.fill;
+  machine = launches.silent;
 }

@@ -258,6 +258,7 @@ lines_took ps c x e =
       buffers = subst (λ bs. AreBufferLines ps lines.lines (map (map number) bs)) (sym lines.all) lines.are;
       few_words = omega (arith, words_meant buffers.0.0, b.1);
       fill = f.1;
+      machine = refl;
     })
 
 pub launch_took : (ps : List Parameter) (text : List ℕ) (x : TypedLaunch) → launch_of ps text ≡ Ok x → IsLaunchText ps text (meant x)

@@ -146,8 +146,8 @@ buffers_forth all done ps lines buffers rest n i (a_buffer {ps = others} {lines 
       is_meant = ap (λ b. b ∷ map (map number) behind.read) words.is_meant ∙ ap (λ others. zs ∷ others) behind.is_meant;
     }
 
-made : (l : meaning.Launch) (buffers : List (List ℤ)) → buffers ≡ l.buffers → (let d : meaning.Launch = record { groups = l.groups; arguments = l.arguments; buffers = buffers; fill = l.fill } in d ≡ l)
-made l buffers p = rw p refl
+made : (l : meaning.Launch) (buffers : List (List ℤ)) → buffers ≡ l.buffers → l.machine ≡ meaning.silent → (let d : meaning.Launch = record { groups = l.groups; arguments = l.arguments; buffers = buffers; fill = l.fill; machine = meaning.silent } in d ≡ l)
+made l buffers p q = rw (p, sym q) refl
 
 lines_forth : (ps : List Parameter) (text : List ℕ) (l : meaning.Launch) → AreNamed ps → AreLaunchLines ps text l → (x : TypedLaunch) × (launch_at ps (cursor 1 text) ≡ Ok x) × (meant x ≡ l)
 unfolding launch_at
@@ -167,7 +167,7 @@ lines_forth ps text l i t =
         fill_forth l.fill [] buffers.line t.fill,
         end_text_forth (buffers.line + 1),
       ) refl,
-      made l _ buffers.is_meant,
+      made l _ buffers.is_meant t.machine,
     )
 
 pub spelling_forth : (ps : List Parameter) (text : List ℕ) (l : meaning.Launch) → SpellsParameters ps → IsLaunchText ps text l → (x : TypedLaunch) × (launch_of ps text ≡ Ok x) × (meant x ≡ l)

@@ -1,7 +1,7 @@
 -- How many steps a work-item takes at most, where `turns` says of each loop, by its number, how often its test is true at most. Each
 -- statement, each test and each load takes one step.
 use Rattle.std.specs.Prelude.{ℕ, ◌+◌, ◌*◌, max}
-use Rattle.semantics.specs.Core.{Term, Literal, Variable, Id, Load, Unary, Binary, Convert, Compare, Not, And, Or, Select, Minimum, Maximum, Statement, Set, Store, If, Loop, Barrier, Return, Break, Continue, Statements, none, one}
+use Rattle.semantics.specs.Core.{Term, Literal, Variable, Id, Load, Unary, Binary, Convert, Compare, Not, And, Or, Select, Minimum, Maximum, Shift, Within, Opaque, Statement, Set, Store, If, Loop, Barrier, Return, Break, Continue, Statements, none, one}
 
 -- the loads of an expression; of a choice those of its test and of the arm that has more
 abbrev pub loads : Term → ℕ
@@ -19,6 +19,9 @@ loads (Or t u) = loads t + loads u
 loads (Select e t u) = loads e + max (loads t) (loads u)
 loads (Minimum t u) = loads t + loads u
 loads (Maximum t u) = loads t + loads u
+loads (Shift d k t u) = loads t + loads u
+loads (Within site n t) = loads t
+loads (Opaque n at k t u v) = loads t + (loads u + loads v)
 
 abbrev mutual
   -- of an `if` the branch that takes more; the test of a loop is made once more than it is true

@@ -37,6 +37,8 @@ fn loads(term: &Term) -> Result<u64, BoundError>
         Term::Literal { .. } | Term::Variable { .. } | Term::Id { .. } => Ok(0),
         Term::Load { index, .. } => plus(1, loads(index)?),
         Term::Unary { of, .. } | Term::Convert { of, .. } | Term::Not { of } => loads(of),
+        Term::Within { index, .. } => loads(index),
+        Term::Shift { value, count, .. } => plus(loads(value)?, loads(count)?),
         Term::Binary { left, right, .. }
         | Term::Compare { left, right, .. }
         | Term::And { left, right }
@@ -51,6 +53,15 @@ fn loads(term: &Term) -> Result<u64, BoundError>
             let test = loads(test)?;
             let taken = loads(taken)?;
             plus(test, taken.max(loads(skipped)?))
+        }
+        Term::Opaque {
+            first,
+            second,
+            third,
+            ..
+        } => {
+            let first = loads(first)?;
+            plus(first, plus(loads(second)?, loads(third)?)?)
         }
     }
 }

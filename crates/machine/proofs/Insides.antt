@@ -8,7 +8,7 @@ use Rattle.semantics.specs.Core.{Array, Site, Space, Global, Local, Statement, S
 use Rattle.semantics.specs.Setup.{Setup, group_of, group_count, item_count}
 use Rattle.semantics.specs.Memory.{cell, owner_of, extent, extent_in, no_array}
 use Rattle.semantics.specs.Evaluation.{Outcome, Gives, Needs, Faults, evaluate, Index, At, Outside, within}
-use Rattle.semantics.specs.Item.{Entry, Item, Status, Running, Waiting, Ended, Stopped}
+use Rattle.semantics.specs.Item.{Entry, Item, Status, Running, Waiting, Ended, Stopped, trail}
 use Rattle.semantics.specs.Ask.{Ask, Loads, Stores, Goes, Waits, Rests, on_value, stores, act, front, passes, by_status, ask}
 use Rattle.semantics.proofs.Groups.{group-below}
 use Rattle.work_item.specs.Asks.{asked}
@@ -52,12 +52,12 @@ stored s i it a site Outside value rest h = tt
 
 acts : (s : Setup) (i : ℕ) (it : Item) (st : Statement) (turns : ℕ) (rest : List Entry) → IsElement s i (act s i it st turns rest)
 unfolding IsElement
-acts s i it (Set n x e) turns rest = valued s i it (evaluate s i e it.variables it.answers) _ (λ v later. tt)
+acts s i it (Set n x e) turns rest = valued s i it (evaluate s i (trail it.left) e it.variables it.answers) _ (λ v later. tt)
 acts s i it (Store n a site k e) turns rest =
-    valued s i it (evaluate s i k it.variables it.answers) _ (λ index later.
-    valued s i it (evaluate s i e it.variables later) _ (λ v _. stored s i it a site (within (extent s a) index.value) v.value rest (λ j. below (extent s a) j index.value)))
-acts s i it (If n e taken skipped) turns rest = valued s i it (evaluate s i e it.variables it.answers) _ (λ v later. tt)
-acts s i it (Loop n e body update) turns rest = valued s i it (evaluate s i e it.variables it.answers) _ (λ v later. tt)
+    valued s i it (evaluate s i (trail it.left) k it.variables it.answers) _ (λ index later.
+    valued s i it (evaluate s i (trail it.left) e it.variables later) _ (λ v _. stored s i it a site (within (extent s a) index.value) v.value rest (λ j. below (extent s a) j index.value)))
+acts s i it (If n e taken skipped) turns rest = valued s i it (evaluate s i (trail it.left) e it.variables it.answers) _ (λ v later. tt)
+acts s i it (Loop n e body update) turns rest = valued s i it (evaluate s i (trail it.left) e it.variables it.answers) _ (λ v later. tt)
 acts s i it (Barrier n l g) turns rest = tt
 acts s i it (Return n) turns rest = tt
 acts s i it (Break n loop) turns rest = tt

@@ -41,6 +41,7 @@ use Rattle.obligations.proofs.Crossed.{not-within, not-across}
 use Rattle.obligations.proofs.Owing.{at_anchor-is, alike-is}
 use Rattle.obligations.proofs.Fronting.{fine_at}
 use Rattle.obligations.proofs.Stationed as stationed
+use Rattle.semantics.specs.Item.{trail}
 
 running-not : (s : Status) (f : Fault) (site : Site) → s ≡ Running → s ≡ Stopped f site → ⊥
 running-not s f site r e = cc
@@ -74,7 +75,7 @@ module _ {E : Type 0} (w : Walked E) (n : Notes) (tell : TellsOfItems n) (laws :
       abbrev pub c : View E
       c = stationed.c w n tell laws shown p is i h f.path from here came
 
-      pub fine : (it : Rattle.semantics.specs.Item.Item) → it.variables ≡ here.variables → HonestFront s w.conditions.contents i f.statement.statement it.variables it.answers → (turns : ℕ) (rest : List Rattle.semantics.specs.Item.Entry) → IsFine c (stationed.all w n tell laws shown p is i h f.path from here came) it (act s i it f.statement.statement turns rest)
+      pub fine : (it : Rattle.semantics.specs.Item.Item) → it.variables ≡ here.variables → HonestFront s w.conditions.contents i (trail it.left) f.statement.statement it.variables it.answers → (turns : ℕ) (rest : List Rattle.semantics.specs.Item.Entry) → IsFine c (stationed.all w n tell laws shown p is i h f.path from here came) it (act s i it f.statement.statement turns rest)
       fine it same honest turns rest =
           fine_at c (launch_facts w.conditions) laws (stationed.all w n tell laws shown p is i h f.path from here came) (stationed.last w n tell laws shown p is i h f.path from here came) n (number_at p.anchor) (number_at p.head) (λ e x. x) tell.rankings
           f.statement.statement here (stationed.at_front w n tell laws shown p is i h f.path from here came f refl front) it same honest turns rest

@@ -85,17 +85,17 @@ module _ {E : Type 0} (c : View E) (launch : List Fact) (laws : DividesLawfully 
     value_at_term : (k : ℕ) (e : Term) (st : State E) (from : Held) (v : Word) (go : Value → State E → Tree E) → At ((course w).value k e st go) st from → CanBe (setup c) c.conditions.contents c.item e from.variables v → (f : Value) × ((st' : State E) × At (go f st') st' from)
     value_at_term k e st from v go s can =
         let p = walked_term (is_lawful e) ((walk (walks c) e).value (stand (spot_of k) st) go) st from s in
-        value_stood c launch laws all last e (lawful e p.0) go can.answers v can.rest (stood_at c launch laws all last (spot_of k) p.1) can.is can.honest
+        value_stood c launch laws all last can.now e (lawful e p.0) go can.answers v can.rest (stood_at c launch laws all last (spot_of k) p.1) can.is can.honest
 
     set_at_term : (k : ℕ) (e : Term) (x : ℕ) (st : State E) (from : Held) (v : Word) (go : State E → Tree E) → At ((course w).value k e st (λ f st'. go ((course w).set st' x f))) st from → CanBe (setup c) c.conditions.contents c.item e from.variables v → (st' : State E) × At (go st') st' (held (slice_set from.variables x v) from.ranks)
     set_at_term k e x st from v go s can =
         let p = walked_term (is_lawful e) ((walk (walks c) e).value (stand (spot_of k) st) (λ f st'. go (assigned x f st'))) st from s in
-        set_stood c launch laws all last e (lawful e p.0) x go can.answers v can.rest (stood_at c launch laws all last (spot_of k) p.1) can.is can.honest
+        set_stood c launch laws all last can.now e (lawful e p.0) x go can.answers v can.rest (stood_at c launch laws all last (spot_of k) p.1) can.is can.honest
 
     test_at_term : (b : Bool) (k : ℕ) (e : Term) (st : State E) (from : Held) (v : Word) (yeses noes : State E → Tree E) → At ((course w).test k e st yeses noes) st from → CanBe (setup c) c.conditions.contents c.item e from.variables v → is_zero v.value ≡ not b → (st' : State E) × At (chosen b (yeses st') (noes st')) st' from
     test_at_term b k e st from v yeses noes s can z =
         let p = walked_term (is_lawful e) ((walk (walks c) e).test (stand (spot_of k) st) (λ t st'. chosen t (yeses st') (noes st'))) st from s in
-        let q = test_stood c launch laws all last e (lawful e p.0) (λ t st'. chosen t (yeses st') (noes st')) can.answers v can.rest (stood_at c launch laws all last (spot_of k) p.1) can.is can.honest in
+        let q = test_stood c launch laws all last can.now e (lawful e p.0) (λ t st'. chosen t (yeses st') (noes st')) can.answers v can.rest (stood_at c launch laws all last (spot_of k) p.1) can.is can.honest in
         (q.0, subst (λ t. At (chosen t (yeses q.0) (noes q.0)) q.0 from) (outcome b v z) q.1)
 
     -- the ranking's form on the path means its value

@@ -18,24 +18,30 @@ use Rattle.path_steps.specs.Refusals.{Refused, StopsAtStep, Stops}
 use Rattle.path_steps.specs.declared.path.Value.{Value}
 use Rattle.path_steps.proofs.Refusing.{second_claim, refused_from}
 
-pub array_steps : {E : Type 0} (s : Setting E) (a : Array) (i low last room : Fact) (l m n : Followed E) → low ≡ i → last ≡ minus (terms.length_form s a) (constant (pos 1)) → room ≡ minus last i → Steps l m (walks.claim_form s OfIndex true low) → Steps m n (walks.claim_form s OfIndex true room) → Steps l n (terms.in_array s a i)
-array_steps s a i low last room l m n d e f p q go =
-    (λ j. collect l.found (walks.claim_form s OfIndex true (sym d j) l.state (λ st'. walks.claim_form s OfIndex true (sym (f ∙ ap (λ x. minus x i) e) j) st' go)))
+pub last_steps : {E : Type 0} (s : Setting E) (last i low room : Fact) (l m n : Followed E) → low ≡ i → room ≡ minus last i → Steps l m (walks.claim_form s OfIndex true low) → Steps m n (walks.claim_form s OfIndex true room) → Steps l n (terms.up_to_last s last i)
+last_steps s last i low room l m n d f p q go =
+    (λ j. collect l.found (walks.claim_form s OfIndex true (sym d j) l.state (λ st'. walks.claim_form s OfIndex true (sym f j) st' go)))
     ∙ p (λ st'. walks.claim_form s OfIndex true room st' go) ∙ q go
 
-pub room_stops : {E : Type 0} (s : Setting E) (a : Array) (i last : Fact) (m : Followed E) (e : WalkError) → last ≡ minus (terms.length_form s a) (constant (pos 1)) → IsUnfit e (minus last i) → StopsAtStep m e (terms.in_array s a i)
-room_stops s a i last m e d h go = second_claim e m.found _ true _ (AtLeastZero i) _ true _ (minus (minus (terms.length_form s a) (constant (pos 1))) i) _ (subst (λ l. IsUnfit e (minus l i)) d h)
+pub room_stops : {E : Type 0} (s : Setting E) (last i : Fact) (m : Followed E) (e : WalkError) → IsUnfit e (minus last i) → StopsAtStep m e (terms.up_to_last s last i)
+room_stops s last i m e h go = second_claim e m.found _ true _ (AtLeastZero i) _ true _ (minus last i) _ h
 
-pub index_stops : {E : Type 0} (s : Setting E) (a : Array) (i low : Fact) (m : Followed E) (e : WalkError) → low ≡ i → StopsAtStep m e (walks.claim_form s OfIndex true low) → StopsAtStep m e (terms.in_array s a i)
-index_stops s a i low m e d h go =
-    let more : State _ → Tree _ = λ st. walks.claim_form s OfIndex true (minus (minus (terms.length_form s a) (constant (pos 1))) i) st go in
+pub index_stops : {E : Type 0} (s : Setting E) (last i low : Fact) (m : Followed E) (e : WalkError) → low ≡ i → StopsAtStep m e (walks.claim_form s OfIndex true low) → StopsAtStep m e (terms.up_to_last s last i)
+index_stops s last i low m e d h go =
+    let more : State _ → Tree _ = λ st. walks.claim_form s OfIndex true (minus last i) st go in
     subst (λ x. Refused e (collect m.found (walks.claim_form s OfIndex true x m.state more))) d (h more)
 
-pub end_stops : {E : Type 0} (s : Setting E) (a : Array) (i low last room : Fact) (l m : Followed E) (e : WalkError) → low ≡ i → last ≡ minus (terms.length_form s a) (constant (pos 1)) → room ≡ minus last i → Steps l m (walks.claim_form s OfIndex true low) → StopsAtStep m e (walks.claim_form s OfIndex true room) → StopsAtStep l e (terms.in_array s a i)
-end_stops s a i low last room l m e d p q t h go =
+pub end_stops : {E : Type 0} (s : Setting E) (last i low room : Fact) (l m : Followed E) (e : WalkError) → low ≡ i → room ≡ minus last i → Steps l m (walks.claim_form s OfIndex true low) → StopsAtStep m e (walks.claim_form s OfIndex true room) → StopsAtStep l e (terms.up_to_last s last i)
+end_stops s last i low room l m e d p t h go =
     refused_from e _ _
-    ((λ j. collect l.found (walks.claim_form s OfIndex true (sym d j) l.state (λ st'. walks.claim_form s OfIndex true (sym (q ∙ ap (λ x. minus x i) p) j) st' go))) ∙ t (λ st'. walks.claim_form s OfIndex true room st' go))
+    ((λ j. collect l.found (walks.claim_form s OfIndex true (sym d j) l.state (λ st'. walks.claim_form s OfIndex true (sym p j) st' go))) ∙ t (λ st'. walks.claim_form s OfIndex true room st' go))
     (h go)
+
+-- up to a last index that is it
+pub up_to_same : {E T : Type 0} (s : Setting E) (last other i : Fact) (m n : Followed E) (r : Result T WalkError) → last ≡ other →
+    MatchResult r (λ u. Steps m n (terms.up_to_last s last i)) (λ e. StopsAtStep m e (terms.up_to_last s last i)) →
+    MatchResult r (λ u. Steps m n (terms.up_to_last s other i)) (λ e. StopsAtStep m e (terms.up_to_last s other i))
+up_to_same s last other i m n r d h = subst (λ f. MatchResult r (λ u. Steps m n (terms.up_to_last s f i)) (λ e. StopsAtStep m e (terms.up_to_last s f i))) d h
 
 -- at the site of the access
 module _ {E : Type 0} (s : Setting E) (is_store : Bool) (a : Array) (site : Site) (i : Fact) where

@@ -21,6 +21,7 @@ use core_code::tree::{Array, LocalArray, Site, Space};
 use domain::Domain;
 use facts::{WalkError, less_number, once_length};
 use linear::Form;
+use std::alloc::Global;
 use words::Kind;
 
 /// A local array by its number, and past the end one without elements.
@@ -36,6 +37,13 @@ fn local_array<D: Domain>(setting: &Setting<D>, number: u32) -> LocalArray
     }
 }
 
+/// The last index where there are so many elements.
+fn last_number(alloc: Global, length: u32) -> Form
+    ensures { form_seen result ≡ minus (constant (pos length)) (constant (pos 1)) }
+{
+    Form::constant(alloc, length as i64 - 1)
+}
+
 /// The last index of an array: one less than a buffer's length, which is a symbol, or than that of a local array, which is a number.
 fn last_form<D: Domain>(setting: &Setting<D>, array: Array) -> Result<Form, WalkError>
     ensures { MatchResult result (λ f. form_seen f ≡ minus (terms.length_form (seen D.Domain setting.now) (array_seen array)) (constant (pos 1))) IsMemory }
@@ -47,9 +55,38 @@ fn last_form<D: Domain>(setting: &Setting<D>, array: Array) -> Result<Form, Walk
         }
         Space::Local => {
             let length = local_array(setting, array.number).length;
-            Ok(Form::constant(setting.alloc, length as i64 - 1))
+            Ok(last_number(setting.alloc, length))
         }
     }
+}
+
+/// An index is at least 0, and at most a last one.
+fn up_to_last<D: Domain>(
+    setting: &Setting<D>,
+    path: &mut Path<D>,
+    last: &Form,
+    index: &Form,
+) -> Result<(), WalkError>
+    ensures { MatchResult result (λ _. Steps (followed path.old) (followed path.new) (terms.up_to_last (seen D.Domain setting.now) (form_seen last.now) (form_seen index.now))) (λ e. StopsAtStep (followed path.old) e (terms.up_to_last (seen D.Domain setting.now) (form_seen last.now) (form_seen index.now))) }
+{
+    let room = last.sub(setting.alloc, index)?;
+    let from_zero = index.copy(setting.alloc)?;
+    claim_form(setting, path, Sort::OfIndex, true, from_zero)?;
+    claim_form(setting, path, Sort::OfIndex, true, room)?;
+    Ok(())
+}
+
+/// An index is at least 0, and below a number.
+pub fn in_length<D: Domain>(
+    setting: &Setting<D>,
+    path: &mut Path<D>,
+    length: u32,
+    index: &Form,
+) -> Result<(), WalkError>
+    ensures { MatchResult result (λ _. Steps (followed path.old) (followed path.new) (terms.in_length (seen D.Domain setting.now) (constant (pos length)) (form_seen index.now))) (λ e. StopsAtStep (followed path.old) e (terms.in_length (seen D.Domain setting.now) (constant (pos length)) (form_seen index.now))) }
+{
+    let last = last_number(setting.alloc, length);
+    up_to_last(setting, path, &last, index)
 }
 
 /// An index is at least 0, and below its array's length.
@@ -62,11 +99,7 @@ fn in_array<D: Domain>(
     ensures { MatchResult result (λ _. Steps (followed path.old) (followed path.new) (terms.in_array (seen D.Domain setting.now) (array_seen array) (form_seen index.now))) (λ e. StopsAtStep (followed path.old) e (terms.in_array (seen D.Domain setting.now) (array_seen array) (form_seen index.now))) }
 {
     let last = last_form(setting, array)?;
-    let room = last.sub(setting.alloc, index)?;
-    let from_zero = index.copy(setting.alloc)?;
-    claim_form(setting, path, Sort::OfIndex, true, from_zero)?;
-    claim_form(setting, path, Sort::OfIndex, true, room)?;
-    Ok(())
+    up_to_last(setting, path, &last, index)
 }
 
 /// Notes an access at the site where its array is named, behind the claims that its index is in the array.

@@ -29,7 +29,7 @@ mod steps;
 mod telling;
 mod tests;
 
-pub use accesses::{access, load, stored};
+pub use accesses::{access, in_length, load, stored};
 pub use bounds::{bounds_of, is_natural, is_refuted, known_form};
 pub use dividends::{asks_dividend, claim_dividend, is_exact, is_positive};
 pub use dividing::{left_by, name_left, quotient, sized_quotient, times};

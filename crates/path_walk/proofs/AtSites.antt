@@ -13,8 +13,8 @@ use Rattle.walk_trees.specs.Tests.{split}
 use Rattle.walk_trees.specs.Joined.{pick_joined}
 use Rattle.walk_trees.specs.Terms.{chosen, pick, pick_split, is_joined_pick}
 use Rattle.path_steps.specs.Paths.{Followed, collect, with_spot}
-use Rattle.path_steps.specs.Leads.{Leads, LeadsTwo}
-use Rattle.path_steps.specs.Refusals.{Stops, StopsTwo}
+use Rattle.path_steps.specs.Leads.{Steps, Leads, LeadsTwo}
+use Rattle.path_steps.specs.Refusals.{StopsAtStep, Stops, StopsTwo}
 use Rattle.path_steps.specs.Halts.{Halts}
 use Rattle.path_steps.specs.declared.halt.Halt.{Halt}
 use Rattle.path_steps.specs.declared.halt.Halt.TheVariants as halts
@@ -22,6 +22,7 @@ use Rattle.path_steps.proofs.Refusing.{refused_from}
 use Rattle.path_steps.proofs.Testing.{ended_from, halted}
 use Rattle.path_walk.specs.Parts.{binary_at}
 use Rattle.path_walk.proofs.Then.{Says}
+use Rattle.path_walk.proofs.Operating.{in_turn, turn_stops, turn_stops_behind}
 
 -- an operator with one operand, or a conversion
 module _ {E A : Type 0} (walk : State E → (A → State E → Tree E) → Tree E) (site : Site) (l m n : Followed E) (d : m ≡ with_spot l (spot_at site l.state)) where
@@ -30,6 +31,25 @@ module _ {E A : Type 0} (walk : State E → (A → State E → Tree E) → Tree 
 
   pub site_stops : {T : Type 0} (view : T → A) (r : Result T Halt) (e : WalkError) → IsErr r × IsErrAnd r (λ h. h ≡ halts.Refused e) → Stops m e walk → Says l n (λ st go. walk (at_site site st) go) view r
   site_stops view r e i h = halted r (halts.Refused e) _ _ i (subst (λ u. Stops u e walk) d h)
+
+-- a step, and the same answer behind it
+module _ {E A : Type 0} (step : State E → (State E → Tree E) → Tree E) (site : Site) (v : A) (l m n : Followed E) (d : m ≡ with_spot l (spot_at site l.state)) where
+  abbrev pub stepped : State E → (A → State E → Tree E) → Tree E
+  stepped st go = step (at_site site st) (λ st'. go v st')
+
+  pub step_leads : Steps m n step → Leads l n stepped v
+  step_leads h = subst (λ u. Leads u n (λ st go. step st (λ st'. go v st')) v) d (λ go. h (λ st'. go v st'))
+
+  pub step_refused : {T : Type 0} (view : T → A) (r : Result T Halt) (e : WalkError) → IsErr r × IsErrAnd r (λ h. h ≡ halts.Refused e) → StopsAtStep m e step → Says l n stepped view r
+  step_refused view r e i h = halted r (halts.Refused e) _ _ i (subst (λ u. Stops u e (λ st go. step st (λ st'. go v st'))) d (λ go. h (λ st'. go v st')))
+
+-- a step with an answer that is refused, or what follows of it
+module _ {E A B T : Type 0} (one : State E → (A → State E → Tree E) → Tree E) (two : A → State E → (B → State E → Tree E) → Tree E) where
+  pub turn_refused : (l n : Followed E) (view : T → B) (r : Result T Halt) (e : WalkError) → IsErr r × IsErrAnd r (λ h. h ≡ halts.Refused e) → Stops l e one → Says l n (in_turn one two) view r
+  turn_refused l n view r e i h = halted r (halts.Refused e) _ _ i (turn_stops one two l e h)
+
+  pub turn_refused_behind : (a : A) (l m n : Followed E) (view : T → B) (r : Result T Halt) (e : WalkError) → IsErr r × IsErrAnd r (λ h. h ≡ halts.Refused e) → Leads l m one a → Stops m e (two a) → Says l n (in_turn one two) view r
+  turn_refused_behind a l m n view r e i p h = halted r (halts.Refused e) _ _ i (turn_stops_behind one two a l m e p h)
 
 -- an operator with two
 module _ {E : Type 0} (s : Setting E) (op : Operator) (k : Kind) (site : Site) (x y x' y' : Value) (l m n o : Followed E) where

@@ -106,6 +106,29 @@ module _ {E : Type 0} (s : Setting E) (make : State E → E) (first second : Sta
   unfolding behind
   told_second_stops x r l m n e d p q h go = refused_from e _ _ (begun x l d go ∙ p (behind l.state go) ∙ q (λ st2. second l.state r st2 (λ st3. go r st3))) (h (λ st3. go r st3))
 
+-- a new symbol, of which one thing is told
+module _ {E : Type 0} (s : Setting E) (make : State E → E) (tell : State E → Fact → State E → (State E → Tree E) → Tree E) where
+  abbrev pub once_told : State E → (Fact → State E → Tree E) → Tree E
+  once_told st go = walks.invent s (make st) st (λ r st1. tell st r st1 (λ st2. go r st2))
+
+  after_it : State E → (Fact → State E → Tree E) → Fact → State E → Tree E
+  after_it st go r st1 = tell st r st1 (λ st2. go r st2)
+
+  made : (x : E) (l : Followed E) → x ≡ make l.state → (go : Fact → State E → Tree E) → collect l.found (once_told l.state go) ≡ collect l.found (walks.invent s x l.state (after_it l.state go))
+  unfolding after_it
+  made x l d go = ap (λ y. collect l.found (walks.invent s y l.state (after_it l.state go))) (sym d)
+
+  pub once_leads : (x : E) (r : Fact) (l m n : Followed E) → x ≡ make l.state → Leads l m (walks.invent s x) r → Steps m n (tell l.state r) → Leads l n once_told r
+  unfolding after_it
+  once_leads x r l m n d p q go = made x l d go ∙ p (after_it l.state go) ∙ q (λ st2. go r st2)
+
+  pub once_new_stops : (x : E) (l : Followed E) (e : WalkError) → x ≡ make l.state → Stops l e (walks.invent s x) → Stops l e once_told
+  once_new_stops x l e d h go = refused_from e _ _ (made x l d go) (h (after_it l.state go))
+
+  pub once_stops : (x : E) (r : Fact) (l m : Followed E) (e : WalkError) → x ≡ make l.state → Leads l m (walks.invent s x) r → StopsAtStep m e (tell l.state r) → Stops l e once_told
+  unfolding after_it
+  once_stops x r l m e d p h go = refused_from e _ _ (made x l d go ∙ p (after_it l.state go)) (h (λ st2. go r st2))
+
 -- a form with a bit more or less
 module _ {E : Type 0} (s : Setting E) (k : Kind) (x : Fact) (b : ℕ) (t : ℤ) where
   bit_on : (Fact → State E → Tree E) → Fact → State E → Tree E

@@ -27,6 +27,13 @@ pub chosen : {E A T : Type 0} (walk : Bool → State E → (A → State E → Tr
 chosen walk test b m n view (Ok t) d h = λ go. ap (λ c. collect m.found (walk c m.state go)) d ∙ h go
 chosen walk test b m n view (Err e) d h = λ go. refused_from e _ _ (ap (λ c. collect m.found (walk c m.state go)) d) (h go)
 
+-- by what is so where the walk stands
+pub by_this : {E A B T : Type 0} (walk : B → State E → (A → State E → Tree E) → Tree E) (of : State E → B) (b : B) (m n : Followed E) (view : T → A) (r : Result T WalkError) → b ≡ of m.state →
+    MatchResult r (λ t. Leads m n (walk b) (view t)) (λ e. Stops m e (walk b)) →
+    MatchResult r (λ t. Leads m n (λ st go. walk (of st) st go) (view t)) (λ e. Stops m e (λ st go. walk (of st) st go))
+by_this walk of b m n view (Ok t) d h = λ go. ap (λ c. collect m.found (walk c m.state go)) (sym d) ∙ h go
+by_this walk of b m n view (Err e) d h = λ go. refused_from e _ _ (ap (λ c. collect m.found (walk c m.state go)) (sym d)) (h go)
+
 -- a new symbol of an element that is it
 pub anew : {E : Type 0} (s : Setting E) (x y : E) (m n : Followed E) (r : Result Form WalkError) → x ≡ y →
     MatchResult r (λ f. Leads m n (walks.invent s x) (form f)) (λ e. Stops m e (walks.invent s x)) →

@@ -1,12 +1,13 @@
 -- Steps of operators, each from where the walk stands.
-use Rattle.std.specs.Prelude.{ℤ, cond}
-use Rattle.semantics.specs.Word.{Kind}
+use Rattle.std.specs.Prelude.{ℕ, ℤ, cond}
+use Rattle.semantics.specs.Word.{Kind, Direction}
 use Rattle.facts.specs.Symbols.{Fact}
 use Rattle.walk_trees.specs.Trees.{Tree}
 use Rattle.walk_trees.specs.Values.{value}
 use Rattle.walk_trees.specs.Walks.{Setting, State, Onward}
 use Rattle.walk_trees.specs.Quotients.{quotient}
-use Rattle.walk_trees.specs.Bits.{meet, join, differ}
+use Rattle.walk_trees.specs.Bits.{meet, join, differ, bits_from}
+use Rattle.walk_trees.specs.Shifts.{by_term}
 use Rattle.walk_trees.specs.Operators.{are_from_zero, masked_by}
 
 -- the quotient without what it leaves
@@ -27,3 +28,9 @@ joined_value s k x y st go = join s k x y st (λ f st'. go (value k f) st')
 
 abbrev pub differing_value : {E : Type 0} → Setting E → Kind → Fact → Fact → State E → Onward E → Tree E
 differing_value s k x y st go = differ s k x y st (λ f st'. go (value k f) st')
+
+abbrev pub quotient_value : {E : Type 0} → Setting E → Kind → ℕ → Fact → State E → Onward E → Tree E
+quotient_value s k n x st go = bits_from s k x n st (λ q st'. go (value k q) st')
+
+abbrev pub termed_value : {E : Type 0} → Setting E → Direction → Kind → Fact → State E → Onward E → Tree E
+termed_value s d k x st go = by_term s d k x st (λ r st'. go (value k r) st')

@@ -57,6 +57,8 @@ pub fn is_lawful(term: &Term) -> bool
             ..
         } => is_covered_unary(*operator, *kind) && is_lawful(of),
         Term::Convert { of, .. } | Term::Not { of } => is_lawful(of),
+        Term::Within { index, .. } => is_lawful(index),
+        Term::Shift { value, count, .. } => is_lawful(value) && is_lawful(count),
         Term::Binary { left, right, .. }
         | Term::Compare { left, right, .. }
         | Term::And { left, right }
@@ -68,5 +70,11 @@ pub fn is_lawful(term: &Term) -> bool
             taken,
             skipped,
         } => is_lawful(test) && is_lawful(taken) && is_lawful(skipped),
+        Term::Opaque {
+            first,
+            second,
+            third,
+            ..
+        } => is_lawful(first) && is_lawful(second) && is_lawful(third),
     }
 }

@@ -37,6 +37,7 @@ mod rests;
 mod root;
 mod said;
 mod shifts;
+mod sliding;
 mod slots;
 mod statements;
 mod terms;

@@ -3,7 +3,7 @@
 ghost use Rattle.std.specs.Prelude.{◌≡◌, pos, true, false, map, slice_index_or, MatchOption, MatchResult};
 ghost use Rattle.linear.specs.Forms.{form as form_seen};
 ghost use Rattle.words.specs.View.{kind as kind_seen};
-ghost use Rattle.core_code.specs.View.{array as array_seen, function as function_seen, operator as operator_seen, relation as relation_seen, site as site_seen, unary_operator as unary_seen};
+ghost use Rattle.core_code.specs.View.{array as array_seen, direction as direction_seen, function as function_seen, operator as operator_seen, relation as relation_seen, site as site_seen, unary_operator as unary_seen};
 ghost use Rattle.facts.specs.Refusals.{IsMemory};
 ghost use Rattle.facts.specs.Symbols.{constant, minus};
 ghost use Rattle.walk_trees.specs.Covered.{is_covered_unary};
@@ -15,16 +15,17 @@ ghost use Rattle.path_steps.specs.Halts.{Halts};
 ghost use Rattle.path_steps.specs.Leads.{Leads};
 ghost use Rattle.path_steps.specs.Paths.{with_spot};
 ghost use Rattle.path_steps.specs.View.{followed, setting as seen, value as value_seen};
-ghost use Rattle.path_walk.specs.Parts.{unary_at, brought_at, binary_at, compare_values};
+ghost use Rattle.path_walk.specs.Parts.{unary_at, brought_at, binary_at, compare_values, shift_values, within_at};
 
 use crate::operators::{binary, unary};
-use core_code::tree::{Array, Function, Operator, Relation, Site, UnaryOperator};
+use crate::sliding::shifted;
+use core_code::tree::{Array, Direction, Function, Operator, Relation, Site, UnaryOperator};
 use domain::Domain;
 use facts::WalkError;
 use linear::Form;
 use path_steps::{
-    Differences, Halt, Path, Setting, Value, both_brought, brought, id_form, joined_differences,
-    load, pick_joined, split,
+    Differences, Halt, Path, Setting, Value, both_brought, brought, id_form, in_length,
+    joined_differences, load, pick_joined, split,
 };
 use std::alloc::Global;
 use words::Kind;
@@ -187,6 +188,37 @@ pub fn compare_values<D: Domain>(
 {
     let (first, second) = both_brought(setting, path, kind, left, right)?;
     split(setting, path, false, relation, &first.form, &second.form)
+}
+
+/// A shift by a term, which first brings the left operand to its kind.
+pub fn shift_values<D: Domain>(
+    setting: &Setting<D>,
+    path: &mut Path<D>,
+    direction: Direction,
+    kind: Kind,
+    left: Value,
+    count: Value,
+) -> Result<Value, Halt>
+    ensures { MatchResult result (λ v. Leads (followed path.old) (followed path.new) (shift_values (seen D.Domain setting.now) (direction_seen direction) (kind_seen kind) (value_seen left) (value_seen count)) (value_seen v)) (λ h. Halts (followed path.old) (followed path.new) h (shift_values (seen D.Domain setting.now) (direction_seen direction) (kind_seen kind) (value_seen left) (value_seen count))) }
+{
+    let left = brought(setting, path, kind, left)?;
+    let value = shifted(setting, path, direction, kind, &left.form, &count.form)?;
+    Ok(value)
+}
+
+/// An index that has to be below a number, at its site.
+pub fn within_at<D: Domain>(
+    setting: &Setting<D>,
+    path: &mut Path<D>,
+    site: Site,
+    length: u32,
+    index: Value,
+) -> Result<Value, Halt>
+    ensures { MatchResult result (λ v. Leads (followed path.old) (followed path.new) (within_at (seen D.Domain setting.now) (site_seen site) length (value_seen index)) (value_seen v)) (λ h. Halts (followed path.old) (followed path.new) h (within_at (seen D.Domain setting.now) (site_seen site) length (value_seen index))) }
+{
+    stand_at(path, site);
+    in_length(setting, path, length, &index.form)?;
+    Ok(index)
 }
 
 /// Both values are of one kind.

@@ -12,12 +12,12 @@ ghost use Rattle.path_steps.specs.View.{followed, setting as seen, value as valu
 ghost use Rattle.path_walk.specs.Parts.{both_values, HaltsTwo};
 
 use crate::operands::{
-    Operation, binary_at, brought_at, compare_values, id_value, larger, literal, loaded, smaller,
-    truth, unary_at, variable,
+    Operation, binary_at, brought_at, compare_values, id_value, larger, literal, loaded,
+    shift_values, smaller, truth, unary_at, variable, within_at,
 };
 use core_code::tree::{Relation, Term};
 use domain::Domain;
-use path_steps::{Halt, Path, Setting, Value, split_number};
+use path_steps::{Halt, Path, Setting, Value, split_number, unknown};
 use words::Kind;
 
 /// Two terms as values, the left one first.
@@ -189,6 +189,35 @@ pub fn value_of<D: Domain>(
         Term::Maximum { left, right } => {
             let (first, second) = both_values(setting, path, left, right)?;
             larger(setting, path, first, second)
+        }
+        Term::Shift {
+            direction,
+            kind,
+            value,
+            count,
+        } => {
+            let (first, second) = both_values(setting, path, value, count)?;
+            shift_values(setting, path, *direction, *kind, first, second)
+        }
+        Term::Within {
+            site,
+            length,
+            index,
+        } => {
+            let index = value_of(setting, path, index)?;
+            within_at(setting, path, *site, *length, index)
+        }
+        Term::Opaque {
+            kind,
+            first,
+            second,
+            third,
+            ..
+        } => {
+            both_values(setting, path, first, second)?;
+            value_of(setting, path, third)?;
+            let value = unknown(setting, path, *kind)?;
+            Ok(value)
         }
     }
 }

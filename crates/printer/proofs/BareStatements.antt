@@ -1,5 +1,5 @@
 -- Elaboration, positions aside: a tree without positions has the core without positions, or the same fault.
-use Rattle.std.proofs.Common.{◌≡◌, ℕ, List, [], ◌∷◌, map, length, Bool, true, false, not, ◌&&◌, ◌||◌, Ok, refl, ap, ◌∙◌}
+use Rattle.std.proofs.Common.{◌≡◌, ℕ, List, [], ◌∷◌, map, length, true, not, ◌&&◌, ◌||◌, Ok, refl, ap, ◌∙◌}
 use Rattle.std.specs.Prelude.{Option, Some, None}
 use Rattle.semantics.specs.Word.{Add, Subtract, Multiply, Divide, Remainder, BitAnd, BitOr, BitXor}
 use Rattle.semantics.specs.Core as core

@@ -1,10 +1,10 @@
 -- Steps of a work-item, positions aside: of a kernel without positions each is the same but for its position.
 use Rattle.std.proofs.Common.{◌≡◌, ℕ, zero, suc, ◌+◌, ℤ, pos, List, [], ◌∷◌, map, Bool, true, false, not, cond, nat_eq, Result, Ok, Err, refl, ap, ◌∙◌}
-use Rattle.semantics.specs.Word.{Word, word, Uint, Fault, as_kind, is_zero}
-use Rattle.semantics.specs.Core.{Site, Space, Global, Local, Array, Function, GlobalId, LocalId, GroupId, GlobalSize, LocalSize, NumGroups, Term, Literal, Variable, Id, Load, Unary, Binary, Convert, Compare, Not, And, Or, Select, Minimum, Maximum, Statement, Set, Store, If, Loop, Barrier, Return, Break, Continue, Statements, none, one, number}
+use Rattle.semantics.specs.Word.{Word, word, Fault, as_kind, is_zero}
+use Rattle.semantics.specs.Core.{Site, Space, Global, Local, Array, Function, GlobalId, LocalId, GroupId, GlobalSize, LocalSize, NumGroups, Term, Literal, Variable, Id, Load, Unary, Binary, Convert, Compare, Not, And, Or, Select, Minimum, Maximum, Shift, Within, Opaque, Statement, Set, Store, If, Loop, Barrier, Return, Break, Continue, Statements, none, one, number}
 use Rattle.semantics.specs.Setup.{Setup, identity, group_size}
 use Rattle.semantics.specs.Memory.{Cell, owner_of, cell, extent_in, extent, kind_in, kind_at}
-use Rattle.semantics.specs.Evaluation.{Outcome, Gives, Needs, Faults, and_then, settled, Index, At, Outside, within, asks, load, decide, evaluate}
+use Rattle.semantics.specs.Evaluation.{Outcome, Gives, Needs, Faults, and_then, settled, Index, At, Outside, within, asks, load, decide, inside, evaluate}
 use Rattle.semantics.specs.Item.{Entry, Status, Running, Waiting, Ended, Stopped, Item, enter, status_of, finished, leave, update_of, resume, local_flag, global_flag, trail}
 use Rattle.semantics.specs.Ask.{Ask, Loads, Stores, Goes, Waits, Rests, loads, on_value, writes, stores, choose, act, front, passes, by_status, ask}
 use Rattle.texts.specs.Bare.{nowhere}
@@ -64,26 +64,30 @@ bare-decide : (b : Bool) (o p q r : Outcome) → q ≡ bare_outcome o → r ≡ 
 bare-decide true o p q r e f = e
 bare-decide false o p q r e f = f
 
-bare-evaluate : (s : Setup) (i : ℕ) (t : Term) (vars answers : List Word) → evaluate (bare_setup s) i (bare_term t) vars answers ≡ bare_outcome (evaluate s i t vars answers)
+bare-evaluate : (s : Setup) (i : ℕ) (now : List ℕ) (t : Term) (vars answers : List Word) → evaluate (bare_setup s) i now (bare_term t) vars answers ≡ bare_outcome (evaluate s i now t vars answers)
 unfolding evaluate
-bare-evaluate s i (Literal k z) vars answers = refl
-bare-evaluate s i (Variable x) vars answers = refl
-bare-evaluate s i (Id k f d) vars answers = ap (λ n. Gives (word k (pos n)) answers) (bare-identity s i f d)
-bare-evaluate s i (Load a site index) vars answers = bare-and _ _ _ _ (bare-evaluate s i index vars answers) (λ k rest. bare-load s a site k.value rest)
-bare-evaluate s i (Unary op kind site e) vars answers = bare-and _ _ _ _ (bare-evaluate s i e vars answers) (λ a rest. bare-settled _ site rest)
-bare-evaluate s i (Binary op kind site l r) vars answers =
-    bare-and _ _ _ _ (bare-evaluate s i l vars answers) (λ a rest. bare-and _ _ _ _ (bare-evaluate s i r vars rest) (λ b more. bare-settled _ site more))
-bare-evaluate s i (Convert kind site e) vars answers = bare-and _ _ _ _ (bare-evaluate s i e vars answers) (λ a rest. bare-settled _ site rest)
-bare-evaluate s i (Compare relation kind l r) vars answers = bare-and _ _ _ _ (bare-evaluate s i l vars answers) (λ a rest. bare-and _ _ _ _ (bare-evaluate s i r vars rest) (λ b more. refl))
-bare-evaluate s i (Not e) vars answers = bare-and _ _ _ _ (bare-evaluate s i e vars answers) (λ a rest. refl)
-bare-evaluate s i (And l r) vars answers =
-    bare-and _ _ _ _ (bare-evaluate s i l vars answers) (λ a rest. bare-decide (is_zero a.value) _ _ _ _ refl (bare-and _ _ _ _ (bare-evaluate s i r vars rest) (λ b more. refl)))
-bare-evaluate s i (Or l r) vars answers =
-    bare-and _ _ _ _ (bare-evaluate s i l vars answers) (λ a rest. bare-decide (not (is_zero a.value)) _ _ _ _ refl (bare-and _ _ _ _ (bare-evaluate s i r vars rest) (λ b more. refl)))
-bare-evaluate s i (Select test a b) vars answers =
-    bare-and _ _ _ _ (bare-evaluate s i test vars answers) (λ t rest. bare-decide (is_zero t.value) _ _ _ _ (bare-evaluate s i b vars rest) (bare-evaluate s i a vars rest))
-bare-evaluate s i (Minimum l r) vars answers = bare-and _ _ _ _ (bare-evaluate s i l vars answers) (λ a rest. bare-and _ _ _ _ (bare-evaluate s i r vars rest) (λ b more. refl))
-bare-evaluate s i (Maximum l r) vars answers = bare-and _ _ _ _ (bare-evaluate s i l vars answers) (λ a rest. bare-and _ _ _ _ (bare-evaluate s i r vars rest) (λ b more. refl))
+bare-evaluate s i now (Literal k z) vars answers = refl
+bare-evaluate s i now (Variable x) vars answers = refl
+bare-evaluate s i now (Id k f d) vars answers = ap (λ n. Gives (word k (pos n)) answers) (bare-identity s i f d)
+bare-evaluate s i now (Load a site index) vars answers = bare-and _ _ _ _ (bare-evaluate s i now index vars answers) (λ k rest. bare-load s a site k.value rest)
+bare-evaluate s i now (Unary op kind site e) vars answers = bare-and _ _ _ _ (bare-evaluate s i now e vars answers) (λ a rest. bare-settled _ site rest)
+bare-evaluate s i now (Binary op kind site l r) vars answers =
+    bare-and _ _ _ _ (bare-evaluate s i now l vars answers) (λ a rest. bare-and _ _ _ _ (bare-evaluate s i now r vars rest) (λ b more. bare-settled _ site more))
+bare-evaluate s i now (Convert kind site e) vars answers = bare-and _ _ _ _ (bare-evaluate s i now e vars answers) (λ a rest. bare-settled _ site rest)
+bare-evaluate s i now (Compare relation kind l r) vars answers = bare-and _ _ _ _ (bare-evaluate s i now l vars answers) (λ a rest. bare-and _ _ _ _ (bare-evaluate s i now r vars rest) (λ b more. refl))
+bare-evaluate s i now (Not e) vars answers = bare-and _ _ _ _ (bare-evaluate s i now e vars answers) (λ a rest. refl)
+bare-evaluate s i now (And l r) vars answers =
+    bare-and _ _ _ _ (bare-evaluate s i now l vars answers) (λ a rest. bare-decide (is_zero a.value) _ _ _ _ refl (bare-and _ _ _ _ (bare-evaluate s i now r vars rest) (λ b more. refl)))
+bare-evaluate s i now (Or l r) vars answers =
+    bare-and _ _ _ _ (bare-evaluate s i now l vars answers) (λ a rest. bare-decide (not (is_zero a.value)) _ _ _ _ refl (bare-and _ _ _ _ (bare-evaluate s i now r vars rest) (λ b more. refl)))
+bare-evaluate s i now (Select test a b) vars answers =
+    bare-and _ _ _ _ (bare-evaluate s i now test vars answers) (λ t rest. bare-decide (is_zero t.value) _ _ _ _ (bare-evaluate s i now b vars rest) (bare-evaluate s i now a vars rest))
+bare-evaluate s i now (Minimum l r) vars answers = bare-and _ _ _ _ (bare-evaluate s i now l vars answers) (λ a rest. bare-and _ _ _ _ (bare-evaluate s i now r vars rest) (λ b more. refl))
+bare-evaluate s i now (Maximum l r) vars answers = bare-and _ _ _ _ (bare-evaluate s i now l vars answers) (λ a rest. bare-and _ _ _ _ (bare-evaluate s i now r vars rest) (λ b more. refl))
+bare-evaluate s i now (Shift d kind l r) vars answers = bare-and _ _ _ _ (bare-evaluate s i now l vars answers) (λ a rest. bare-and _ _ _ _ (bare-evaluate s i now r vars rest) (λ b more. refl))
+bare-evaluate s i now (Within site n e) vars answers = bare-and _ _ _ _ (bare-evaluate s i now e vars answers) (λ k rest. bare-settled (inside (within n k.value) k) site rest)
+bare-evaluate s i now (Opaque n at kind a b c) vars answers =
+    bare-and _ _ _ _ (bare-evaluate s i now a vars answers) (λ x rest. bare-and _ _ _ _ (bare-evaluate s i now b vars rest) (λ y more. bare-and _ _ _ _ (bare-evaluate s i now c vars more) (λ z last. refl)))
 
 -- what is left of an item's statements
 pub bare-enter : (ss : Statements) (rest : List Entry) → enter (bare_steps ss) (map bare_entry rest) ≡ map bare_entry (enter ss rest)
@@ -194,15 +198,19 @@ bare-stores s i it a site Outside z rest = refl
 bare-go : (it : Item) (l m : List Entry) (vars : List Word) → l ≡ map bare_entry m → Goes (finished (bare_item it) l vars) ≡ bare_ask (Goes (finished it m vars))
 bare-go it l m vars e = ap Goes (bare-finished it l m vars e)
 
+-- a term of the statement in front, at its moment
+bare-now : (s : Setup) (i : ℕ) (it : Item) (e : Term) (answers : List Word) → evaluate (bare_setup s) i (trail (map bare_entry it.left)) (bare_term e) it.variables answers ≡ bare_outcome (evaluate s i (trail it.left) e it.variables answers)
+bare-now s i it e answers = ap (λ now. evaluate (bare_setup s) i now (bare_term e) it.variables answers) (bare-trail it.left) ∙ bare-evaluate s i (trail it.left) e it.variables answers
+
 bare-act : (s : Setup) (i : ℕ) (it : Item) (st : Statement) (turns : ℕ) (rest : List Entry) → act (bare_setup s) i (bare_item it) (bare_step st) turns (map bare_entry rest) ≡ bare_ask (act s i it st turns rest)
-bare-act s i it (Set n x e) turns rest = bare-on s i it _ _ _ _ (bare-evaluate s i e it.variables it.answers) (λ v more. bare-go it _ _ _ refl)
+bare-act s i it (Set n x e) turns rest = bare-on s i it _ _ _ _ (bare-now s i it e it.answers) (λ v more. bare-go it _ _ _ refl)
 bare-act s i it (Store n a site k e) turns rest =
-    bare-on s i it _ _ _ _ (bare-evaluate s i k it.variables it.answers) (λ index later. bare-on s i it _ _ _ _ (bare-evaluate s i e it.variables later) (λ v more.
+    bare-on s i it _ _ _ _ (bare-now s i it k it.answers) (λ index later. bare-on s i it _ _ _ _ (bare-now s i it e later) (λ v more.
     ap (λ m. stores (bare_setup s) i (bare_item it) a nowhere (within m index.value) v.value (map bare_entry rest)) (bare-extent s a.space a.number) ∙ bare-stores s i it a site (within (extent s a) index.value) v.value rest))
 bare-act s i it (If n e taken skipped) turns rest =
-    bare-on s i it _ _ _ _ (bare-evaluate s i e it.variables it.answers) (λ v more. bare-go it _ _ _ (bare-choose (is_zero v.value) _ _ _ _ (bare-enter skipped rest) (bare-enter taken rest)))
+    bare-on s i it _ _ _ _ (bare-now s i it e it.answers) (λ v more. bare-go it _ _ _ (bare-choose (is_zero v.value) _ _ _ _ (bare-enter skipped rest) (bare-enter taken rest)))
 bare-act s i it (Loop n e body update) turns rest =
-    bare-on s i it _ _ _ _ (bare-evaluate s i e it.variables it.answers) (λ v more. bare-go it _ _ _ (bare-choose (is_zero v.value) _ _ _ _ refl
+    bare-on s i it _ _ _ _ (bare-now s i it e it.answers) (λ v more. bare-go it _ _ _ (bare-choose (is_zero v.value) _ _ _ _ refl
     (ap (enter (bare_steps body)) (bare-enter update (record { statement = Loop n e body update; turns = turns + 1 } ∷ rest)) ∙ bare-enter body (enter update (record { statement = Loop n e body update; turns = turns + 1 } ∷ rest)))))
 bare-act s i it (Barrier n l g) turns rest = refl
 bare-act s i it (Return n) turns rest = refl

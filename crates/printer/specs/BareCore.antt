@@ -1,6 +1,6 @@
 -- Elaborated kernels, positions aside.
 use Rattle.std.specs.Prelude.{Ok, Err}
-use Rattle.semantics.specs.Core.{Term, Literal, Variable, Id, Load, Unary, Binary, Convert, Compare, Not, And, Or, Select, Minimum, Maximum, Statement, Set, Store, If, Loop, Barrier, Return, Break, Continue, Statements, none, one}
+use Rattle.semantics.specs.Core.{Term, Literal, Variable, Id, Load, Unary, Binary, Convert, Compare, Not, And, Or, Select, Minimum, Maximum, Shift, Within, Opaque, Statement, Set, Store, If, Loop, Barrier, Return, Break, Continue, Statements, none, one}
 use Rattle.semantics.specs.Launch.{Kernel}
 use Rattle.texts.specs.Bare.{nowhere}
 use Rattle.texts.specs.TypeFaults.{Checked}
@@ -20,6 +20,9 @@ bare_term (Or l r) = Or (bare_term l) (bare_term r)
 bare_term (Select test a b) = Select (bare_term test) (bare_term a) (bare_term b)
 bare_term (Minimum l r) = Minimum (bare_term l) (bare_term r)
 bare_term (Maximum l r) = Maximum (bare_term l) (bare_term r)
+bare_term (Shift direction kind l r) = Shift direction kind (bare_term l) (bare_term r)
+bare_term (Within site length index) = Within nowhere length (bare_term index)
+bare_term (Opaque operation place kind a b c) = Opaque operation place kind (bare_term a) (bare_term b) (bare_term c)
 
 abbrev mutual
   pub bare_step : Statement → Statement

@@ -9,6 +9,7 @@ use Rattle.reading.specs.Answers as kernels
 use Rattle.launch_text.specs.Answers as launches
 use Rattle.cert_check.specs.Numbers as checks
 use Rattle.executor.specs.Numbers as runs
+use Rattle.executor.specs.declared.error.RunError.TheVariants.{Unreckoned}
 use Rattle.proof_search.specs.Numbers as searches
 use Rattle.std.proofs.lemmas.List.{append-nil}
 use Rattle.findings.specs.View.{finding as finding_seen}
@@ -37,8 +38,9 @@ check_line is_wide k c p line (e, r, h) = (checks.error_number e, place_seen (ch
 
 run_line : (is_wide : Bool) (workers : ℕ) (k : Source) (c p l line : List ℕ) → IsUnanswered is_wide workers k c p l line → IsRefusalLine line
 run_line is_wide workers k c p l line (inl h) = check_line is_wide k c p line h
-run_line is_wide workers k c p l line (inr (inl (e, kernel, conditions, s, r, h))) = (launches.error_number e, place_seen (checks.at_line (launches.error_place e)), h)
-run_line is_wide workers k c p l line (inr (inr (e, kernel, conditions, launch, s, q, r, h))) = (runs.error_number e, place_seen (checks.at_line (runs.error_line e)), h)
+run_line is_wide workers k c p l line (inr (inl (kernel, conditions, s, r, h))) = (runs.error_number Unreckoned, place_seen (checks.at_line (runs.error_line Unreckoned)), h)
+run_line is_wide workers k c p l line (inr (inr (inl (e, kernel, conditions, s, r, h)))) = (launches.error_number e, place_seen (checks.at_line (launches.error_place e)), h)
+run_line is_wide workers k c p l line (inr (inr (inr (e, kernel, conditions, launch, s, q, r, h)))) = (runs.error_number e, place_seen (checks.at_line (runs.error_line e)), h)
 
 print_line : (k : Source) (line : List ℕ) → IsRefusedKernel k line → IsRefusalLine line
 print_line k line (e, r, h) = (kernels.error_number e, place_seen (checks.at_place (kernels.error_place e)), h)

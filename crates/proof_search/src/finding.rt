@@ -315,8 +315,9 @@ fn searched<R: Threads + Sync, W: Watcher>(
     }
 }
 
-/// A certificate with its text for a kernel and launch conditions, each by its text, with so much effort: as by `find`, `find_narrowly` or
-/// `find_wide`. Whoever watches is told how far the search is, and what is found does not depend on it.
+/// A certificate with its text for a kernel and launch conditions, each by its text, with so much effort: as by `find`, or also under
+/// conditions of version 2, by the narrow walk or by both. Where both fail, the answer is what the narrow one comes to; a text is of version
+/// 4 where the wide one found it. Whoever watches is told how far the search is, and what is found does not depend on it.
 pub fn find_watched<R: Threads + Sync, W: Watcher>(
     rt: &R,
     alloc: Global,
@@ -378,47 +379,6 @@ pub fn find<R: Threads + Sync>(
         workers,
         is_wide: false,
         may_widen: false,
-    };
-    find_watched(rt, alloc, narrow(kernel), conditions, effort, &Unwatched)
-}
-
-/// What `find` finds, also under conditions of version 2: the narrow walk, run to its end.
-pub fn find_narrowly<R: Threads + Sync>(
-    rt: &R,
-    alloc: Global,
-    kernel: &[u8],
-    conditions: &[u8],
-    workers: u32,
-) -> Result<Found, VerifyError>
-    ensures written { IfOk result (λ f. f.text.items ≡ text_found (certificate_seen f.certificate)) }
-    ensures workers { IfOk result (λ _. IsCount workers) }
-    ensures told { IfErr result (λ e. TellsOf true e workers (text_for Bits32 kernel.now) conditions.now) }
-{
-    let effort = Effort {
-        workers,
-        is_wide: true,
-        may_widen: false,
-    };
-    find_watched(rt, alloc, narrow(kernel), conditions, effort, &Unwatched)
-}
-
-/// What `find_narrowly` finds; or, where that is refused for want of what is shown, for its size or by the budget, a certificate of the
-/// wide walk, with its text, which is of version 4. Where both fail, the answer of `find_narrowly`.
-pub fn find_wide<R: Threads + Sync>(
-    rt: &R,
-    alloc: Global,
-    kernel: &[u8],
-    conditions: &[u8],
-    workers: u32,
-) -> Result<Found, VerifyError>
-    ensures written { IfOk result (λ f. f.text.items ≡ text_found (certificate_seen f.certificate)) }
-    ensures workers { IfOk result (λ _. IsCount workers) }
-    ensures told { IfErr result (λ e. TellsOf true e workers (text_for Bits32 kernel.now) conditions.now) }
-{
-    let effort = Effort {
-        workers,
-        is_wide: true,
-        may_widen: true,
     };
     find_watched(rt, alloc, narrow(kernel), conditions, effort, &Unwatched)
 }

@@ -12,4 +12,4 @@ mod widening;
 
 pub use certificate_search::{Progress, Unwatched, Watcher};
 pub use error::VerifyError;
-pub use finding::{Effort, Found, find, find_narrowly, find_watched, find_wide};
+pub use finding::{Effort, Found, find, find_watched};

@@ -20,6 +20,7 @@ use Rattle.rankings.specs.Within.{was_stopped, AreWithin}
 use Rattle.rankings.proofs.Bounded.{within-behind, goes_on}
 use Rattle.rankings.proofs.Remaining.{entry_cost, remaining, behind, remaining-enter, turn_cost, test_cost, leave-less}
 use Rattle.rankings.proofs.Ready.{Ready, ready-enter, ready-turn, ready-leave, ready-resume}
+use Rattle.semantics.specs.Item.{trail}
 
 -- the loads of a statement's own terms
 abbrev pub own_loads : Statement → ℕ
@@ -131,15 +132,15 @@ module _ (s : Setup) (turns : ℕ → ℕ) (i most : ℕ) where
     tested false h q = turned h (within-behind turns u again (within-behind turns b (enter u again) (q (pos 0) (goes_on (enter b (enter u again)))))).0
 
   pub act_keeps : (it : Item) (st : Statement) (t : ℕ) (r : List Entry) → Fronts it st t r → Heeds it (act s i it st t r) → Keeps it (act s i it st t r)
-  act_keeps it (Set n x e) t r h = value_keeps it (Set n x e) t r 0 (loads e) it.answers (evaluate s i e it.variables it.answers) (λ v _. Goes (finished it r (slice_set it.variables x v))) h (omega arith) (omega arith) (uses s i e it.variables it.answers)
+  act_keeps it (Set n x e) t r h = value_keeps it (Set n x e) t r 0 (loads e) it.answers (evaluate s i (trail it.left) e it.variables it.answers) (λ v _. Goes (finished it r (slice_set it.variables x v))) h (omega arith) (omega arith) (uses s i (trail it.left) e it.variables it.answers)
       (λ v rest l q. passed it (Set n x e) t r r (slice_set it.variables x v) h h.ready.1 (omega arith))
   act_keeps it (Store n a site k e) t r h =
-      value_keeps it (Store n a site k e) t r 0 (loads k) it.answers (evaluate s i k it.variables it.answers) (λ index later. on_value s i it (evaluate s i e it.variables later) (λ v _. stores s i it a site (within (extent s a) index.value) v.value r)) h (omega arith) (omega arith) (uses s i k it.variables it.answers)
-      (λ index later l. value_keeps it (Store n a site k e) t r (loads k) (loads e) later (evaluate s i e it.variables later) (λ v _. stores s i it a site (within (extent s a) index.value) v.value r) h (omega (arith, l)) (omega arith) (uses s i e it.variables later)
+      value_keeps it (Store n a site k e) t r 0 (loads k) it.answers (evaluate s i (trail it.left) k it.variables it.answers) (λ index later. on_value s i it (evaluate s i (trail it.left) e it.variables later) (λ v _. stores s i it a site (within (extent s a) index.value) v.value r)) h (omega arith) (omega arith) (uses s i (trail it.left) k it.variables it.answers)
+      (λ index later l. value_keeps it (Store n a site k e) t r (loads k) (loads e) later (evaluate s i (trail it.left) e it.variables later) (λ v _. stores s i it a site (within (extent s a) index.value) v.value r) h (omega (arith, l)) (omega arith) (uses s i (trail it.left) e it.variables later)
       (λ v rest l' q. stores_keep it (Store n a site k e) t r a site (within (extent s a) index.value) v.value h))
-  act_keeps it (If n e taken skipped) t r h = value_keeps it (If n e taken skipped) t r 0 (loads e) it.answers (evaluate s i e it.variables it.answers) (λ v _. Goes (finished it (choose (is_zero v.value) (enter skipped r) (enter taken r)) it.variables)) h (omega arith) (omega arith) (uses s i e it.variables it.answers)
+  act_keeps it (If n e taken skipped) t r h = value_keeps it (If n e taken skipped) t r 0 (loads e) it.answers (evaluate s i (trail it.left) e it.variables it.answers) (λ v _. Goes (finished it (choose (is_zero v.value) (enter skipped r) (enter taken r)) it.variables)) h (omega arith) (omega arith) (uses s i (trail it.left) e it.variables it.answers)
       (λ v rest l q. branch it n e taken skipped t r (is_zero v.value) h)
-  act_keeps it (Loop n e b u) t r h = value_keeps it (Loop n e b u) t r 0 (loads e) it.answers (evaluate s i e it.variables it.answers) (λ v _. Goes (finished it (choose (is_zero v.value) r (enter b (enter u (again it n e b u t r)))) it.variables)) h (omega arith) (omega arith) (uses s i e it.variables it.answers)
+  act_keeps it (Loop n e b u) t r h = value_keeps it (Loop n e b u) t r 0 (loads e) it.answers (evaluate s i (trail it.left) e it.variables it.answers) (λ v _. Goes (finished it (choose (is_zero v.value) r (enter b (enter u (again it n e b u t r)))) it.variables)) h (omega arith) (omega arith) (uses s i (trail it.left) e it.variables it.answers)
       (λ v rest l q. tested it n e b u t r (is_zero v.value) h q)
   act_keeps it (Barrier n l g) t r h = λ q z. (subst (Ready turns) (sym h.left) h.ready, rw h.left (omega (arith, room it (Barrier n l g) t r h)))
   act_keeps it (Return n) t r h = λ q. passed it (Return n) t r [] it.variables h tt (omega arith)

@@ -15,6 +15,7 @@ use Rattle.loop_bounds.specs.Costs.{loads, statement_cost, cost}
 use Rattle.rankings.specs.LoopFree.{is_loop_free_statement, is_loop_free}
 use Rattle.rankings.proofs.TermLoads.{Uses, uses}
 use Rattle.rankings.proofs.LoopFreeRemaining.{AreLoopFree, remaining, behind, loop_free-enter, remaining-enter, leave-part, resume-part}
+use Rattle.semantics.specs.Item.{trail}
 
 -- the loads of a statement's own terms
 abbrev own_loads : Statement → ℕ
@@ -108,13 +109,13 @@ module _ (s : Setup) (turns : ℕ → ℕ) (i most : ℕ) where
       by false p = done it (If n e taken skipped) t r (enter taken r) it.variables h (loop_free-enter taken r p.0 h.others) (omega (arith, remaining-enter turns taken r, le-max_left (cost turns taken) (cost turns skipped)))
 
   act_keeps : (it : Item) (st : Statement) (t : ℕ) (r : List Entry) → Fronts it st t r → Keeps it (act s i it st t r)
-  act_keeps it (Set n x e) t r h = value_keeps it (Set n x e) t r 0 (loads e) it.answers (evaluate s i e it.variables it.answers) (λ v _. Goes (finished it r (slice_set it.variables x v))) h (omega arith) (omega arith) (uses s i e it.variables it.answers)
+  act_keeps it (Set n x e) t r h = value_keeps it (Set n x e) t r 0 (loads e) it.answers (evaluate s i (trail it.left) e it.variables it.answers) (λ v _. Goes (finished it r (slice_set it.variables x v))) h (omega arith) (omega arith) (uses s i (trail it.left) e it.variables it.answers)
       (λ v rest l. done it (Set n x e) t r r (slice_set it.variables x v) h h.others (omega arith))
   act_keeps it (Store n a site k e) t r h =
-      value_keeps it (Store n a site k e) t r 0 (loads k) it.answers (evaluate s i k it.variables it.answers) (λ index later. on_value s i it (evaluate s i e it.variables later) (λ v _. stores s i it a site (within (extent s a) index.value) v.value r)) h (omega arith) (omega arith) (uses s i k it.variables it.answers)
-      (λ index later l. value_keeps it (Store n a site k e) t r (loads k) (loads e) later (evaluate s i e it.variables later) (λ v _. stores s i it a site (within (extent s a) index.value) v.value r) h (omega (arith, l)) (omega arith) (uses s i e it.variables later)
+      value_keeps it (Store n a site k e) t r 0 (loads k) it.answers (evaluate s i (trail it.left) k it.variables it.answers) (λ index later. on_value s i it (evaluate s i (trail it.left) e it.variables later) (λ v _. stores s i it a site (within (extent s a) index.value) v.value r)) h (omega arith) (omega arith) (uses s i (trail it.left) k it.variables it.answers)
+      (λ index later l. value_keeps it (Store n a site k e) t r (loads k) (loads e) later (evaluate s i (trail it.left) e it.variables later) (λ v _. stores s i it a site (within (extent s a) index.value) v.value r) h (omega (arith, l)) (omega arith) (uses s i (trail it.left) e it.variables later)
       (λ v rest l'. stores_keep it (Store n a site k e) t r a site (within (extent s a) index.value) v.value h))
-  act_keeps it (If n e taken skipped) t r h = value_keeps it (If n e taken skipped) t r 0 (loads e) it.answers (evaluate s i e it.variables it.answers) (λ v _. Goes (finished it (choose (is_zero v.value) (enter skipped r) (enter taken r)) it.variables)) h (omega arith) (omega arith) (uses s i e it.variables it.answers)
+  act_keeps it (If n e taken skipped) t r h = value_keeps it (If n e taken skipped) t r 0 (loads e) it.answers (evaluate s i (trail it.left) e it.variables it.answers) (λ v _. Goes (finished it (choose (is_zero v.value) (enter skipped r) (enter taken r)) it.variables)) h (omega arith) (omega arith) (uses s i (trail it.left) e it.variables it.answers)
       (λ v rest l. branch it n e taken skipped t r (is_zero v.value) h)
   act_keeps it (Loop n e b u) t r h = let f : false ≡ true = h.first in absurd cc
   act_keeps it (Barrier n l g) t r h = λ z. (subst AreLoopFree (sym h.left) (h.first, h.others), rw h.left (omega (arith, room it (Barrier n l g) t r h)))

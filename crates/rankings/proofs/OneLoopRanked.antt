@@ -112,7 +112,7 @@ one_loop-short l = ranked_short (at_one l) notes limit (one_loop-sound l) (one_l
 
 -- and three where x is 1: two tests and an assignment
 abbrev at_1 : Launch
-at_1 = record { groups = record { x = 1; y = 1; z = 1 }; arguments = word Uint (pos 1) ∷ []; buffers = []; fill = 0 }
+at_1 = record { groups = record { x = 1; y = 1; z = 1 }; arguments = word Uint (pos 1) ∷ []; buffers = []; fill = 0; machine = λ o. pos 0 }
 
 pub one_loop-steps : (after (at_one at_1) 0 (pos 0 ∷ pos 0 ∷ pos 0 ∷ [])).steps ≡ 3
 unfolding opening ask evaluate

@@ -12,6 +12,7 @@ use Rattle.arrivals.specs.Points.{has_loop, have_loop, AreFormed}
 use Rattle.arrivals.proofs.Tests.{refuted, true_false, or_left, or_right, neither}
 use Rattle.arrivals.proofs.Counting.{own, owned, owned-enter, own-have}
 use Rattle.arrivals.proofs.Controlled.{Separate}
+use Rattle.semantics.specs.Item.{trail}
 
 separate-enter : (ss : Statements) (r : List Entry) → AreFormed ss → ((k : ℕ) → have_loop k ss ≡ true → owned k r ≡ false) → Separate r → Separate (enter ss r)
 separate-enter none r d f h = h
@@ -82,13 +83,13 @@ module _ (s : Setup) (i : ℕ) where
   chosen false x y h g = g
 
   act_stays : (it : Item) (st : Statement) (t : ℕ) (r : List Entry) → Separate it.left → Separate (record { statement = st; turns = t } ∷ r) → Stays it (act s i it st t r)
-  act_stays it (Set n x e) t r g h = value_stays it (evaluate s i e it.variables it.answers) _ g (λ v rest z. h.1.1)
-  act_stays it (Store n a site k e) t r g h = value_stays it (evaluate s i k it.variables it.answers) _ g (λ index later.
-      value_stays it (evaluate s i e it.variables later) _ g (λ v rest. stores_stay it a site (within (extent s a) index.value) v.value r g h.1.1))
-  act_stays it (If n e taken skipped) t r g h = value_stays it (evaluate s i e it.variables it.answers) _ g (λ v rest z. chosen (is_zero v.value) (enter skipped r) (enter taken r)
+  act_stays it (Set n x e) t r g h = value_stays it (evaluate s i (trail it.left) e it.variables it.answers) _ g (λ v rest z. h.1.1)
+  act_stays it (Store n a site k e) t r g h = value_stays it (evaluate s i (trail it.left) k it.variables it.answers) _ g (λ index later.
+      value_stays it (evaluate s i (trail it.left) e it.variables later) _ g (λ v rest. stores_stay it a site (within (extent s a) index.value) v.value r g h.1.1))
+  act_stays it (If n e taken skipped) t r g h = value_stays it (evaluate s i (trail it.left) e it.variables it.answers) _ g (λ v rest z. chosen (is_zero v.value) (enter skipped r) (enter taken r)
       (separate-enter skipped r h.0.1 (λ k q. h.1.0 k (or_right (have_loop k taken) (have_loop k skipped) q)) h.1.1)
       (separate-enter taken r h.0.0 (λ k q. h.1.0 k (or_left (have_loop k taken) (have_loop k skipped) q)) h.1.1))
-  act_stays it (Loop n e b u) t r g h = value_stays it (evaluate s i e it.variables it.answers) _ g (λ v rest z. chosen (is_zero v.value) r (enter b (enter u (record { statement = Loop n e b u; turns = t + 1 } ∷ r)))
+  act_stays it (Loop n e b u) t r g h = value_stays it (evaluate s i (trail it.left) e it.variables it.answers) _ g (λ v rest z. chosen (is_zero v.value) r (enter b (enter u (record { statement = Loop n e b u; turns = t + 1 } ∷ r)))
       h.1.1 (separate-turn n e b u (t + 1) r h))
   act_stays it (Barrier n l f) t r g h = λ z. g
   act_stays it (Return n) t r g h = λ z. tt

@@ -3,10 +3,10 @@ use Rattle.std.proofs.Common.{ℕ, ◌+◌, ◌≤◌, ◌<◌, ℤ, List, [], �
 use Rattle.std.specs.Prelude.{max}
 use Rattle.std.proofs.Math.Nat.{le-max_left, le-max_right}
 use Rattle.semantics.specs.Word.{Word, Fault, calculate_unary, convert, is_zero, smaller, larger, truth}
-use Rattle.semantics.specs.Core.{Site, Array, Term, Literal, Variable, Id, Load, Unary, Binary, Convert, Compare, Not, And, Or, Select, Minimum, Maximum}
+use Rattle.semantics.specs.Core.{Site, Array, Term, Literal, Variable, Id, Load, Unary, Binary, Convert, Compare, Not, And, Or, Select, Minimum, Maximum, Shift, Within, Opaque}
 use Rattle.semantics.specs.Setup.{Setup}
 use Rattle.semantics.specs.Memory.{extent}
-use Rattle.semantics.specs.Evaluation.{Outcome, Gives, Needs, Faults, and_then, settled, operate, compare, Index, At, Outside, within, asks, load, decide, evaluate}
+use Rattle.semantics.specs.Evaluation.{Outcome, Gives, Needs, Faults, and_then, settled, operate, compare, Index, At, Outside, within, asks, load, decide, shifted, inside, opaque, evaluate}
 use Rattle.loop_bounds.specs.Costs.{loads}
 
 -- of n answers it has used m at most, or it needs one more and has used fewer
@@ -54,39 +54,44 @@ load_uses : (s : Setup) (a : Array) (site : Site) (z : ℤ) (answers : List Word
 load_uses s a site z [] = asks_uses a (within (extent s a) z) site
 load_uses s a site z (v ∷ rest) = omega arith
 
-both : (s : Setup) (i : ℕ) (l r : Term) (vars answers : List Word) (go : Word → Word → List Word → Outcome) → Uses (loads l) (length answers) (evaluate s i l vars answers) → ((rest : List Word) → Uses (loads r) (length rest) (evaluate s i r vars rest)) → ((a b : Word) (rest : List Word) → Uses 0 (length rest) (go a b rest))
-    → Uses (loads l + loads r) (length answers) (and_then (evaluate s i l vars answers) (λ a rest. and_then (evaluate s i r vars rest) (λ b rest'. go a b rest')))
-both s i l r vars answers go hl hr h =
-    uses_then (loads l) (loads r) (length answers) (evaluate s i l vars answers) (λ a rest. and_then (evaluate s i r vars rest) (λ b rest'. go a b rest')) hl
-    (λ a rest. uses_no_more (loads r) (length rest) (evaluate s i r vars rest) (go a) (hr rest) (h a))
+both : (s : Setup) (i : ℕ) (now : List ℕ) (l r : Term) (vars answers : List Word) (go : Word → Word → List Word → Outcome) → Uses (loads l) (length answers) (evaluate s i now l vars answers) → ((rest : List Word) → Uses (loads r) (length rest) (evaluate s i now r vars rest)) → ((a b : Word) (rest : List Word) → Uses 0 (length rest) (go a b rest))
+    → Uses (loads l + loads r) (length answers) (and_then (evaluate s i now l vars answers) (λ a rest. and_then (evaluate s i now r vars rest) (λ b rest'. go a b rest')))
+both s i now l r vars answers go hl hr h =
+    uses_then (loads l) (loads r) (length answers) (evaluate s i now l vars answers) (λ a rest. and_then (evaluate s i now r vars rest) (λ b rest'. go a b rest')) hl
+    (λ a rest. uses_no_more (loads r) (length rest) (evaluate s i now r vars rest) (go a) (hr rest) (h a))
 
-pub uses : (s : Setup) (i : ℕ) (e : Term) (vars answers : List Word) → Uses (loads e) (length answers) (evaluate s i e vars answers)
+pub uses : (s : Setup) (i : ℕ) (now : List ℕ) (e : Term) (vars answers : List Word) → Uses (loads e) (length answers) (evaluate s i now e vars answers)
 unfolding evaluate
-uses s i (Literal k z) vars answers = given answers
-uses s i (Variable x) vars answers = given answers
-uses s i (Id k f d) vars answers = given answers
-uses s i (Load a site index) vars answers =
-    let u = uses_then (loads index) 1 (length answers) (evaluate s i index vars answers) (λ k rest. load s a site k.value rest) (uses s i index vars answers) (λ k rest. load_uses s a site k.value rest) in
-    uses_up_to (loads index + 1) (1 + loads index) (length answers) (evaluate s i (Load a site index) vars answers) (omega arith) u
-uses s i (Unary op kind site e) vars answers = uses_no_more (loads e) (length answers) (evaluate s i e vars answers) (λ a rest. settled (calculate_unary op s.width kind a.value) site rest) (uses s i e vars answers) (λ a rest. settled_uses (calculate_unary op s.width kind a.value) site rest)
-uses s i (Binary op kind site l r) vars answers = both s i l r vars answers (λ a b rest. settled (operate op s.width kind a b) site rest) (uses s i l vars answers) (uses s i r vars) (λ a b rest. settled_uses (operate op s.width kind a b) site rest)
-uses s i (Convert kind site e) vars answers = uses_no_more (loads e) (length answers) (evaluate s i e vars answers) (λ a rest. settled (convert s.width kind a.value) site rest) (uses s i e vars answers) (λ a rest. settled_uses (convert s.width kind a.value) site rest)
-uses s i (Compare c kind l r) vars answers = both s i l r vars answers (λ a b rest. Gives (truth (compare c kind a b)) rest) (uses s i l vars answers) (uses s i r vars) (λ a b rest. given rest)
-uses s i (Not e) vars answers = uses_no_more (loads e) (length answers) (evaluate s i e vars answers) (λ a rest. Gives (truth (is_zero a.value)) rest) (uses s i e vars answers) (λ a rest. given rest)
-uses s i (And l r) vars answers =
-    uses_then (loads l) (loads r) (length answers) (evaluate s i l vars answers)
-    (λ a rest. decide (is_zero a.value) (Gives (truth false) rest) (and_then (evaluate s i r vars rest) (λ b rest'. Gives (truth (not (is_zero b.value))) rest'))) (uses s i l vars answers)
+uses s i now (Literal k z) vars answers = given answers
+uses s i now (Variable x) vars answers = given answers
+uses s i now (Id k f d) vars answers = given answers
+uses s i now (Load a site index) vars answers =
+    let u = uses_then (loads index) 1 (length answers) (evaluate s i now index vars answers) (λ k rest. load s a site k.value rest) (uses s i now index vars answers) (λ k rest. load_uses s a site k.value rest) in
+    uses_up_to (loads index + 1) (1 + loads index) (length answers) (evaluate s i now (Load a site index) vars answers) (omega arith) u
+uses s i now (Unary op kind site e) vars answers = uses_no_more (loads e) (length answers) (evaluate s i now e vars answers) (λ a rest. settled (calculate_unary op s.width kind a.value) site rest) (uses s i now e vars answers) (λ a rest. settled_uses (calculate_unary op s.width kind a.value) site rest)
+uses s i now (Binary op kind site l r) vars answers = both s i now l r vars answers (λ a b rest. settled (operate op s.width kind a b) site rest) (uses s i now l vars answers) (uses s i now r vars) (λ a b rest. settled_uses (operate op s.width kind a b) site rest)
+uses s i now (Convert kind site e) vars answers = uses_no_more (loads e) (length answers) (evaluate s i now e vars answers) (λ a rest. settled (convert s.width kind a.value) site rest) (uses s i now e vars answers) (λ a rest. settled_uses (convert s.width kind a.value) site rest)
+uses s i now (Compare c kind l r) vars answers = both s i now l r vars answers (λ a b rest. Gives (truth (compare c kind a b)) rest) (uses s i now l vars answers) (uses s i now r vars) (λ a b rest. given rest)
+uses s i now (Not e) vars answers = uses_no_more (loads e) (length answers) (evaluate s i now e vars answers) (λ a rest. Gives (truth (is_zero a.value)) rest) (uses s i now e vars answers) (λ a rest. given rest)
+uses s i now (And l r) vars answers =
+    uses_then (loads l) (loads r) (length answers) (evaluate s i now l vars answers)
+    (λ a rest. decide (is_zero a.value) (Gives (truth false) rest) (and_then (evaluate s i now r vars rest) (λ b rest'. Gives (truth (not (is_zero b.value))) rest'))) (uses s i now l vars answers)
     (λ a rest. decide_uses (loads r) (length rest) (is_zero a.value) _ _ (uses_up_to 0 (loads r) (length rest) (Gives (truth false) rest) (omega arith) (given rest))
-    (uses_no_more (loads r) (length rest) (evaluate s i r vars rest) (λ b rest'. Gives (truth (not (is_zero b.value))) rest') (uses s i r vars rest) (λ b rest'. given rest')))
-uses s i (Or l r) vars answers =
-    uses_then (loads l) (loads r) (length answers) (evaluate s i l vars answers)
-    (λ a rest. decide (not (is_zero a.value)) (Gives (truth true) rest) (and_then (evaluate s i r vars rest) (λ b rest'. Gives (truth (not (is_zero b.value))) rest'))) (uses s i l vars answers)
+    (uses_no_more (loads r) (length rest) (evaluate s i now r vars rest) (λ b rest'. Gives (truth (not (is_zero b.value))) rest') (uses s i now r vars rest) (λ b rest'. given rest')))
+uses s i now (Or l r) vars answers =
+    uses_then (loads l) (loads r) (length answers) (evaluate s i now l vars answers)
+    (λ a rest. decide (not (is_zero a.value)) (Gives (truth true) rest) (and_then (evaluate s i now r vars rest) (λ b rest'. Gives (truth (not (is_zero b.value))) rest'))) (uses s i now l vars answers)
     (λ a rest. decide_uses (loads r) (length rest) (not (is_zero a.value)) _ _ (uses_up_to 0 (loads r) (length rest) (Gives (truth true) rest) (omega arith) (given rest))
-    (uses_no_more (loads r) (length rest) (evaluate s i r vars rest) (λ b rest'. Gives (truth (not (is_zero b.value))) rest') (uses s i r vars rest) (λ b rest'. given rest')))
-uses s i (Select t l r) vars answers =
-    uses_then (loads t) (max (loads l) (loads r)) (length answers) (evaluate s i t vars answers) (λ v rest. decide (is_zero v.value) (evaluate s i r vars rest) (evaluate s i l vars rest)) (uses s i t vars answers)
-    (λ v rest. decide_uses (max (loads l) (loads r)) (length rest) (is_zero v.value) (evaluate s i r vars rest) (evaluate s i l vars rest)
-    (uses_up_to (loads r) (max (loads l) (loads r)) (length rest) (evaluate s i r vars rest) (le-max_right (loads l) (loads r)) (uses s i r vars rest))
-    (uses_up_to (loads l) (max (loads l) (loads r)) (length rest) (evaluate s i l vars rest) (le-max_left (loads l) (loads r)) (uses s i l vars rest)))
-uses s i (Minimum l r) vars answers = both s i l r vars answers (λ a b rest. Gives (smaller a b) rest) (uses s i l vars answers) (uses s i r vars) (λ a b rest. given rest)
-uses s i (Maximum l r) vars answers = both s i l r vars answers (λ a b rest. Gives (larger a b) rest) (uses s i l vars answers) (uses s i r vars) (λ a b rest. given rest)
+    (uses_no_more (loads r) (length rest) (evaluate s i now r vars rest) (λ b rest'. Gives (truth (not (is_zero b.value))) rest') (uses s i now r vars rest) (λ b rest'. given rest')))
+uses s i now (Select t l r) vars answers =
+    uses_then (loads t) (max (loads l) (loads r)) (length answers) (evaluate s i now t vars answers) (λ v rest. decide (is_zero v.value) (evaluate s i now r vars rest) (evaluate s i now l vars rest)) (uses s i now t vars answers)
+    (λ v rest. decide_uses (max (loads l) (loads r)) (length rest) (is_zero v.value) (evaluate s i now r vars rest) (evaluate s i now l vars rest)
+    (uses_up_to (loads r) (max (loads l) (loads r)) (length rest) (evaluate s i now r vars rest) (le-max_right (loads l) (loads r)) (uses s i now r vars rest))
+    (uses_up_to (loads l) (max (loads l) (loads r)) (length rest) (evaluate s i now l vars rest) (le-max_left (loads l) (loads r)) (uses s i now l vars rest)))
+uses s i now (Minimum l r) vars answers = both s i now l r vars answers (λ a b rest. Gives (smaller a b) rest) (uses s i now l vars answers) (uses s i now r vars) (λ a b rest. given rest)
+uses s i now (Maximum l r) vars answers = both s i now l r vars answers (λ a b rest. Gives (larger a b) rest) (uses s i now l vars answers) (uses s i now r vars) (λ a b rest. given rest)
+uses s i now (Shift d k l r) vars answers = both s i now l r vars answers (λ a b rest. Gives (shifted d k a b) rest) (uses s i now l vars answers) (uses s i now r vars) (λ a b rest. given rest)
+uses s i now (Within site n e) vars answers = uses_no_more (loads e) (length answers) (evaluate s i now e vars answers) (λ k rest. settled (inside (within n k.value) k) site rest) (uses s i now e vars answers) (λ k rest. settled_uses (inside (within n k.value) k) site rest)
+uses s i now (Opaque n at k a b c) vars answers =
+    uses_then (loads a) (loads b + loads c) (length answers) (evaluate s i now a vars answers) (λ x rest. and_then (evaluate s i now b vars rest) (λ y rest'. and_then (evaluate s i now c vars rest') (λ z rest''. Gives (opaque s i now n at k x y z) rest''))) (uses s i now a vars answers)
+    (λ x rest. both s i now b c vars rest (λ y z rest'. Gives (opaque s i now n at k x y z) rest') (uses s i now b vars rest) (uses s i now c vars) (λ y z rest'. given rest'))

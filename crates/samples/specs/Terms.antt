@@ -2,7 +2,7 @@
 use Rattle.std.specs.Prelude.{ℕ, ℤ, pos, List, [], ◌∷◌, Bool, true, false, Option, Some, None, bytes_eq}
 use Rattle.semantics.specs.Word.{Kind, Uint, Exact}
 use Rattle.semantics.specs.Core.{Site, Array, Global, Local, Term, Literal, Id, LocalId, Statement, Statements, none, one}
-use Rattle.semantics.specs.Launch.{Three, LocalArray}
+use Rattle.semantics.specs.Launch.{Three, LocalArray, silent}
 use Rattle.semantics.specs.Setup.{Setup}
 use Rattle.semantics.specs.Item.{trail}
 use Rattle.semantics.specs.Solo.{Access}
@@ -34,7 +34,7 @@ flat n = record { x = n; y = 1; z = 1 }
 abbrev pub setup : (size groups : ℕ) → List (List ℤ) → List LocalArray → List Kind → List Statement → Setup
 setup size groups buffers arrays variables ss = record {
   kernel = record { sizes = flat size; buffers = kinds buffers; arguments = []; arrays = arrays; variables = variables; body = body ss };
-  launch = record { groups = flat groups; arguments = []; buffers = buffers; fill = 9 };
+  launch = record { groups = flat groups; arguments = []; buffers = buffers; fill = 9; machine = silent };
   width = Exact;
 }
   where

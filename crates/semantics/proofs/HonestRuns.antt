@@ -8,7 +8,7 @@ use Rattle.semantics.specs.Launch.{Fits}
 use Rattle.semantics.specs.Setup.{Setup, group_of}
 use Rattle.semantics.specs.Memory.{Cell, Memory, cell, owner_of, extent, kind_at, opening_memory, opening_at, put, same_cell}
 use Rattle.semantics.specs.Evaluation.{Outcome, Gives, Needs, Faults, and_then, evaluate, Index, At, Outside, within}
-use Rattle.semantics.specs.Item.{Entry, Status, Running, Waiting, Ended, Stopped, Item, enter, finished, leave, resume}
+use Rattle.semantics.specs.Item.{Entry, Status, Running, Waiting, Ended, Stopped, Item, enter, finished, leave, resume, trail}
 use Rattle.semantics.specs.Ask.{Ask, Loads, Stores, Goes, Waits, Rests, on_value, stores, choose, act, front, passes, by_status, ask}
 use Rattle.semantics.specs.Solo.{after, opening, moved}
 use Rattle.semantics.specs.Conditions.{Content, Conditions, IsContent, IsHeld, Meets}
@@ -27,7 +27,7 @@ as_kind-twice k z = as_kind-same k (as_kind k z) (as_kind-in_kind k z)
 -- the answers to the loads of the first entry that is left
 abbrev pub HonestLeft : Setup → List Content → ℕ → List Entry → (vars answers : List Word) → Type 0
 HonestLeft s cs i [] vars answers = Unit {0}
-HonestLeft s cs i (e ∷ rest) vars answers = HonestFront s cs i e.statement vars answers
+HonestLeft s cs i (e ∷ rest) vars answers = HonestFront s cs i (trail (e ∷ rest)) e.statement vars answers
 
 abbrev pub HonestItem : Setup → List Content → ℕ → Item → Type 0
 HonestItem s cs i it = HonestLeft s cs i it.left it.variables it.answers
@@ -58,13 +58,13 @@ held-by s cs i a k z h =
 module _ (s : Setup) (cs : List Content) (i : ℕ) where
   left-none : (left : List Entry) (vars : List Word) → HonestLeft s cs i left vars []
   left-none [] vars = tt
-  left-none (e ∷ rest) vars = go e.statement
+  left-none (f ∷ rest) vars = go f.statement
     where
-      go : (st : Statement) → HonestFront s cs i st vars []
-      go (Set n x e) = (heeds s cs i vars e).none
-      go (Store n a site k e) = (onward s cs (λ answers. evaluate s i k vars answers) (λ answers. HonestTerm s cs i k vars answers) (λ index later. evaluate s i e vars later) (λ index later. HonestTerm s cs i e vars later) (heeds s cs i vars k) (λ index. heeds s cs i vars e)).none
-      go (If n e taken skipped) = (heeds s cs i vars e).none
-      go (Loop n e body update) = (heeds s cs i vars e).none
+      go : (st : Statement) → HonestFront s cs i (trail (f ∷ rest)) st vars []
+      go (Set n x e) = (heeds s cs i (trail (f ∷ rest)) vars e).none
+      go (Store n a site k e) = (onward s cs (λ answers. evaluate s i (trail (f ∷ rest)) k vars answers) (λ answers. HonestTerm s cs i (trail (f ∷ rest)) k vars answers) (λ index later. evaluate s i (trail (f ∷ rest)) e vars later) (λ index later. HonestTerm s cs i (trail (f ∷ rest)) e vars later) (heeds s cs i (trail (f ∷ rest)) vars k) (λ index. heeds s cs i (trail (f ∷ rest)) vars e)).none
+      go (If n e taken skipped) = (heeds s cs i (trail (f ∷ rest)) vars e).none
+      go (Loop n e body update) = (heeds s cs i (trail (f ∷ rest)) vars e).none
       go (Barrier n l g) = tt
       go (Return n) = tt
       go (Break n loop) = tt
@@ -83,24 +83,24 @@ module _ (s : Setup) (cs : List Content) (i : ℕ) where
     stores-honest a site (At k) z rest = left-none rest it.variables
     stores-honest a site Outside z rest = here
 
-    term-more : (e : Term) (P : List Word → Type 0) → HonestTerm s cs i e it.variables it.answers → ((answers : List Word) → HonestTerm s cs i e it.variables answers → P answers) → (a : Array) (k : ℕ) (site : Site) (w : Word) → evaluate s i e it.variables it.answers ≡ Needs a k site → Held s cs a w → P (it.answers ++ w ∷ [])
-    term-more e P now back a k site w h held = back (it.answers ++ w ∷ []) ((heeds s cs i it.variables e).more it.answers a k site w h held now)
+    term-more : (e : Term) (P : List Word → Type 0) → HonestTerm s cs i (trail it.left) e it.variables it.answers → ((answers : List Word) → HonestTerm s cs i (trail it.left) e it.variables answers → P answers) → (a : Array) (k : ℕ) (site : Site) (w : Word) → evaluate s i (trail it.left) e it.variables it.answers ≡ Needs a k site → Held s cs a w → P (it.answers ++ w ∷ [])
+    term-more e P now back a k site w h held = back (it.answers ++ w ∷ []) ((heeds s cs i (trail it.left) it.variables e).more it.answers a k site w h held now)
 
     gives-on : (v : Word) (rest : List Word) (o : Outcome) (go : Word → List Word → Outcome) → o ≡ Gives v rest → and_then o go ≡ go v rest
     gives-on v rest o go e = ap (λ x. and_then x go) e
 
-    act-honest : (st : Statement) (turns : ℕ) (rest : List Entry) → ((answers : List Word) → HonestFront s cs i st it.variables answers → HonestLeft s cs i it.left it.variables answers) → HonestFront s cs i st it.variables it.answers → HonestAsk s cs i it (act s i it st turns rest)
-    act-honest (Set n x e) turns rest back now = on_value-honest (evaluate s i e it.variables it.answers) (λ v _. Goes (finished it rest (slice_set it.variables x v))) (term-more e (λ answers. HonestLeft s cs i it.left it.variables answers) now back) (λ v r h. left-none rest _)
+    act-honest : (st : Statement) (turns : ℕ) (rest : List Entry) → ((answers : List Word) → HonestFront s cs i (trail it.left) st it.variables answers → HonestLeft s cs i it.left it.variables answers) → HonestFront s cs i (trail it.left) st it.variables it.answers → HonestAsk s cs i it (act s i it st turns rest)
+    act-honest (Set n x e) turns rest back now = on_value-honest (evaluate s i (trail it.left) e it.variables it.answers) (λ v _. Goes (finished it rest (slice_set it.variables x v))) (term-more e (λ answers. HonestLeft s cs i it.left it.variables answers) now back) (λ v r h. left-none rest _)
     act-honest (Store n a site k e) turns rest back now =
-        let both = onward s cs (λ answers. evaluate s i k it.variables answers) (λ answers. HonestTerm s cs i k it.variables answers) (λ index later. evaluate s i e it.variables later) (λ index later. HonestTerm s cs i e it.variables later) (heeds s cs i it.variables k) (λ index. heeds s cs i it.variables e) in
-        on_value-honest (evaluate s i k it.variables it.answers)
-        (λ index later. on_value s i it (evaluate s i e it.variables later) (λ v _. stores s i it a site (within (extent s a) index.value) v.value rest))
-        (λ b l site' w h held. back (it.answers ++ w ∷ []) (both.more it.answers b l site' w (ap (λ o. and_then o (λ index later. evaluate s i e it.variables later)) h) held now))
-        (λ index later g. on_value-honest (evaluate s i e it.variables later) (λ v _. stores s i it a site (within (extent s a) index.value) v.value rest)
-        (λ b l site' w h held. back (it.answers ++ w ∷ []) (both.more it.answers b l site' w (ap (λ o. and_then o (λ index' later'. evaluate s i e it.variables later')) g ∙ h) held now))
+        let both = onward s cs (λ answers. evaluate s i (trail it.left) k it.variables answers) (λ answers. HonestTerm s cs i (trail it.left) k it.variables answers) (λ index later. evaluate s i (trail it.left) e it.variables later) (λ index later. HonestTerm s cs i (trail it.left) e it.variables later) (heeds s cs i (trail it.left) it.variables k) (λ index. heeds s cs i (trail it.left) it.variables e) in
+        on_value-honest (evaluate s i (trail it.left) k it.variables it.answers)
+        (λ index later. on_value s i it (evaluate s i (trail it.left) e it.variables later) (λ v _. stores s i it a site (within (extent s a) index.value) v.value rest))
+        (λ b l site' w h held. back (it.answers ++ w ∷ []) (both.more it.answers b l site' w (ap (λ o. and_then o (λ index later. evaluate s i (trail it.left) e it.variables later)) h) held now))
+        (λ index later g. on_value-honest (evaluate s i (trail it.left) e it.variables later) (λ v _. stores s i it a site (within (extent s a) index.value) v.value rest)
+        (λ b l site' w h held. back (it.answers ++ w ∷ []) (both.more it.answers b l site' w (ap (λ o. and_then o (λ index' later'. evaluate s i (trail it.left) e it.variables later')) g ∙ h) held now))
         (λ v r h. stores-honest a site (within (extent s a) index.value) v.value rest))
-    act-honest (If n e t f) turns rest back now = on_value-honest (evaluate s i e it.variables it.answers) (λ v _. Goes (finished it (choose (is_zero v.value) (enter f rest) (enter t rest)) it.variables)) (term-more e (λ answers. HonestLeft s cs i it.left it.variables answers) now back) (λ v r h. left-none (choose (is_zero v.value) (enter f rest) (enter t rest)) it.variables)
-    act-honest (Loop n e b u) turns rest back now = on_value-honest (evaluate s i e it.variables it.answers) (λ v _. Goes (finished it (choose (is_zero v.value) rest (enter b (enter u (record { statement = Loop n e b u; turns = turns + 1 } ∷ rest)))) it.variables)) (term-more e (λ answers. HonestLeft s cs i it.left it.variables answers) now back) (λ v r h. left-none (choose (is_zero v.value) rest (enter b (enter u (record { statement = Loop n e b u; turns = turns + 1 } ∷ rest)))) it.variables)
+    act-honest (If n e t f) turns rest back now = on_value-honest (evaluate s i (trail it.left) e it.variables it.answers) (λ v _. Goes (finished it (choose (is_zero v.value) (enter f rest) (enter t rest)) it.variables)) (term-more e (λ answers. HonestLeft s cs i it.left it.variables answers) now back) (λ v r h. left-none (choose (is_zero v.value) (enter f rest) (enter t rest)) it.variables)
+    act-honest (Loop n e b u) turns rest back now = on_value-honest (evaluate s i (trail it.left) e it.variables it.answers) (λ v _. Goes (finished it (choose (is_zero v.value) rest (enter b (enter u (record { statement = Loop n e b u; turns = turns + 1 } ∷ rest)))) it.variables)) (term-more e (λ answers. HonestLeft s cs i it.left it.variables answers) now back) (λ v r h. left-none (choose (is_zero v.value) rest (enter b (enter u (record { statement = Loop n e b u; turns = turns + 1 } ∷ rest)))) it.variables)
     act-honest (Barrier n l g) turns rest back now = here
     act-honest (Return n) turns rest back now = tt
     act-honest (Break n k) turns rest back now = left-none (leave k rest) it.variables
@@ -108,7 +108,7 @@ module _ (s : Setup) (cs : List Content) (i : ℕ) where
 
     front-honest : (left : List Entry) → it.left ≡ left → HonestAsk s cs i it (front s i it left)
     front-honest [] e = tt
-    front-honest (x ∷ rest) e = act-honest x.statement x.turns rest (λ answers h. subst (λ l. HonestLeft s cs i l it.variables answers) (sym e) h) (subst (λ l. HonestLeft s cs i l it.variables it.answers) e here)
+    front-honest (x ∷ rest) e = act-honest x.statement x.turns rest (λ answers h. subst (λ l. HonestLeft s cs i l it.variables answers) (sym e) (subst (λ q. HonestFront s cs i q x.statement it.variables answers) (ap trail e) h)) (subst (λ q. HonestFront s cs i q x.statement it.variables it.answers) (sym (ap trail e)) (subst (λ l. HonestLeft s cs i l it.variables it.answers) e here))
 
     passes-honest : (left : List Entry) → HonestAsk s cs i it (passes it left)
     passes-honest [] = tt
@@ -142,8 +142,8 @@ module _ (s : Setup) (cs : List Content) (i : ℕ) where
       let here = after-honest ws h.0 in
       moved-honest (after s i ws) (ask s i (after s i ws)) z here (ask-honest (after s i ws) here) h.1
 
-  pub front_of : (ws : List ℤ) (e : Entry) (rest : List Entry) → IsHonest s cs i ws → (after s i ws).left ≡ e ∷ rest → HonestFront s cs i e.statement (after s i ws).variables (after s i ws).answers
-  front_of ws e rest h l = subst (λ x. HonestLeft s cs i x (after s i ws).variables (after s i ws).answers) l (after-honest ws h)
+  pub front_of : (ws : List ℤ) (e : Entry) (rest : List Entry) → IsHonest s cs i ws → (after s i ws).left ≡ e ∷ rest → HonestFront s cs i (trail (after s i ws).left) e.statement (after s i ws).variables (after s i ws).answers
+  front_of ws e rest h l = subst (λ q. HonestFront s cs i q e.statement (after s i ws).variables (after s i ws).answers) (sym (ap trail l)) (subst (λ x. HonestLeft s cs i x (after s i ws).variables (after s i ws).answers) l (after-honest ws h))
 
 -- without lines every run is honest
 may_hold-none : (s : Setup) (b : ℕ) (z : ℤ) → MayHold s [] b z
@@ -211,12 +211,12 @@ inside_in-space s i a Local k e h =
 cell-inside : (s : Setup) (i : ℕ) (a : Array) (k : ℕ) → k < extent s a → IsInside s (cell s i a k)
 cell-inside s i a k h = inside_in-space s i a a.space k refl h
 
-on_value-loaded : (s : Setup) (i : ℕ) (it : Item) (e : Term) (answers : List Word) (go : Word → List Word → Ask) → ((w : Word) (r : List Word) → Loaded s (go w r)) → Loaded s (on_value s i it (evaluate s i e it.variables answers) go)
-on_value-loaded s i it e answers go h = by (evaluate s i e it.variables answers) refl
+on_value-loaded : (s : Setup) (i : ℕ) (it : Item) (e : Term) (answers : List Word) (go : Word → List Word → Ask) → ((w : Word) (r : List Word) → Loaded s (go w r)) → Loaded s (on_value s i it (evaluate s i (trail it.left) e it.variables answers) go)
+on_value-loaded s i it e answers go h = by (evaluate s i (trail it.left) e it.variables answers) refl
   where
-    by : (o : Outcome) → evaluate s i e it.variables answers ≡ o → Loaded s (on_value s i it o go)
+    by : (o : Outcome) → evaluate s i (trail it.left) e it.variables answers ≡ o → Loaded s (on_value s i it o go)
     by (Gives v rest) q = h v rest
-    by (Needs a k site) q = (cell-inside s i a k ((heeds s [] i it.variables e).inside answers a k site q), refl)
+    by (Needs a k site) q = (cell-inside s i a k ((heeds s [] i (trail it.left) it.variables e).inside answers a k site q), refl)
     by (Faults f site) q = tt
 
 stores-loaded : (s : Setup) (i : ℕ) (it : Item) (a : Array) (site : Site) (k : Index) (z : ℤ) (rest : List Entry) → Loaded s (stores s i it a site k z rest)
@@ -227,7 +227,7 @@ act-loaded : (s : Setup) (i : ℕ) (it : Item) (st : Statement) (turns : ℕ) (r
 act-loaded s i it (Set n x e) turns rest = on_value-loaded s i it e it.answers _ (λ w r. tt)
 act-loaded s i it (Store n a site k e) turns rest =
     on_value-loaded s i it k it.answers
-    (λ index later. on_value s i it (evaluate s i e it.variables later) (λ v _. stores s i it a site (within (extent s a) index.value) v.value rest))
+    (λ index later. on_value s i it (evaluate s i (trail it.left) e it.variables later) (λ v _. stores s i it a site (within (extent s a) index.value) v.value rest))
     (λ index later. on_value-loaded s i it e later (λ v _. stores s i it a site (within (extent s a) index.value) v.value rest)
     (λ v r. stores-loaded s i it a site (within (extent s a) index.value) v.value rest))
 act-loaded s i it (If n e t f) turns rest = on_value-loaded s i it e it.answers _ (λ w r. tt)

@@ -1,10 +1,10 @@
 -- The answers to the loads of a term stay honest when one more comes that is held.
 use Rattle.std.proofs.Common.{◌≡◌, ◌<◌, ℕ, ℤ, pos, negsuc, cond, nat_lt, ltb-true, List, [], ◌∷◌, ◌++◌, Bool, true, false, not, Result, Ok, Err, refl, sym, ◌∙◌, subst}
 use Rattle.semantics.specs.Word.{Word, Fault, calculate_unary, convert, is_zero, smaller, larger, truth, as_kind}
-use Rattle.semantics.specs.Core.{Site, Array, Term, Literal, Variable, Id, Load, Unary, Binary, Convert, Compare, Not, And, Or, Select, Minimum, Maximum}
+use Rattle.semantics.specs.Core.{Site, Array, Term, Literal, Variable, Id, Load, Unary, Binary, Convert, Compare, Not, And, Or, Select, Minimum, Maximum, Shift, Within, Opaque}
 use Rattle.semantics.specs.Setup.{Setup}
 use Rattle.semantics.specs.Memory.{extent, element_kind}
-use Rattle.semantics.specs.Evaluation.{Outcome, Gives, Needs, Faults, and_then, settled, operate, compare, Index, At, Outside, within, asks, load, decide, evaluate}
+use Rattle.semantics.specs.Evaluation.{Outcome, Gives, Needs, Faults, and_then, settled, operate, compare, Index, At, Outside, within, asks, load, decide, shifted, inside, opaque, evaluate}
 use Rattle.semantics.specs.Conditions.{Content}
 use Rattle.semantics.specs.Contents.{HoldsOf, FirstHeld, Behind, HonestTerm}
 use Rattle.semantics.proofs.MoreAnswers.{Grows, then-by, then-grows, value-grows, settled-grows, load-grows, gives-is}
@@ -219,15 +219,15 @@ module _ (s : Setup) (cs : List Content) where
   gives-blind : (w : Word → Word) → Blind (λ a rest. Gives (w a) rest)
   gives-blind w = record { asks_none = λ a rest b k site h. cc; leaves = λ a rest v q h. sym (gives-is (w a) v rest q h).1; grows = λ a. value-grows (w a) }
 
-  module _ (i : ℕ) (vars : List Word) where
+  module _ (i : ℕ) (now : List ℕ) (vars : List Word) where
     abbrev reads : Term → List Word → Outcome
-    reads e answers = evaluate s i e vars answers
+    reads e answers = evaluate s i now e vars answers
 
     abbrev Honest : Term → List Word → Type 0
-    Honest e answers = HonestTerm s cs i e vars answers
+    Honest e answers = HonestTerm s cs i now e vars answers
 
-    two : (l r : Term) (go : Word → Word → List Word → Outcome) → Heeding s cs (reads l) (Honest l) → Heeding s cs (reads r) (Honest r) → ((a : Word) → Blind (go a)) → Heeding s cs (λ answers. and_then (evaluate s i l vars answers) (λ a rest. and_then (evaluate s i r vars rest) (go a))) (λ answers. Honest l answers × Behind (evaluate s i l vars answers) (λ a rest. Honest r rest))
-    two l r go hl hr hgo = onward (reads l) (Honest l) (λ a rest. and_then (evaluate s i r vars rest) (go a)) (λ a rest. Honest r rest) hl (λ a. blind (reads r) (Honest r) (go a) hr (hgo a))
+    two : (l r : Term) (go : Word → Word → List Word → Outcome) → Heeding s cs (reads l) (Honest l) → Heeding s cs (reads r) (Honest r) → ((a : Word) → Blind (go a)) → Heeding s cs (λ answers. and_then (evaluate s i now l vars answers) (λ a rest. and_then (evaluate s i now r vars rest) (go a))) (λ answers. Honest l answers × Behind (evaluate s i now l vars answers) (λ a rest. Honest r rest))
+    two l r go hl hr hgo = onward (reads l) (Honest l) (λ a rest. and_then (evaluate s i now r vars rest) (go a)) (λ a rest. Honest r rest) hl (λ a. blind (reads r) (Honest r) (go a) hr (hgo a))
 
     pub heeds : (e : Term) → Heeding s cs (reads e) (Honest e)
     unfolding evaluate
@@ -241,15 +241,21 @@ module _ (s : Setup) (cs : List Content) where
     heeds (Compare c kind l r) = two l r (λ a b rest. Gives (truth (compare c kind a b)) rest) (heeds l) (heeds r) (λ a. gives-blind (λ b. truth (compare c kind a b)))
     heeds (Not e) = blind (reads e) (Honest e) (λ a rest. Gives (truth (is_zero a.value)) rest) (heeds e) (gives-blind (λ a. truth (is_zero a.value)))
     heeds (And l r) =
-        onward (reads l) (Honest l) (λ a rest. decide (is_zero a.value) (Gives (truth false) rest) (and_then (evaluate s i r vars rest) (λ b rest'. Gives (truth (not (is_zero b.value))) rest'))) (λ a rest. is_zero a.value ≡ false → Honest r rest) (heeds l)
-        (λ a. and-heeds (is_zero a.value) (truth false) (λ rest. and_then (evaluate s i r vars rest) (λ b rest'. Gives (truth (not (is_zero b.value))) rest')) (Honest r)
+        onward (reads l) (Honest l) (λ a rest. decide (is_zero a.value) (Gives (truth false) rest) (and_then (evaluate s i now r vars rest) (λ b rest'. Gives (truth (not (is_zero b.value))) rest'))) (λ a rest. is_zero a.value ≡ false → Honest r rest) (heeds l)
+        (λ a. and-heeds (is_zero a.value) (truth false) (λ rest. and_then (evaluate s i now r vars rest) (λ b rest'. Gives (truth (not (is_zero b.value))) rest')) (Honest r)
         (blind (reads r) (Honest r) (λ b rest'. Gives (truth (not (is_zero b.value))) rest') (heeds r) (gives-blind (λ b. truth (not (is_zero b.value))))))
     heeds (Or l r) =
-        onward (reads l) (Honest l) (λ a rest. decide (not (is_zero a.value)) (Gives (truth true) rest) (and_then (evaluate s i r vars rest) (λ b rest'. Gives (truth (not (is_zero b.value))) rest'))) (λ a rest. is_zero a.value ≡ true → Honest r rest) (heeds l)
-        (λ a. or-heeds (is_zero a.value) (truth true) (λ rest. and_then (evaluate s i r vars rest) (λ b rest'. Gives (truth (not (is_zero b.value))) rest')) (Honest r)
+        onward (reads l) (Honest l) (λ a rest. decide (not (is_zero a.value)) (Gives (truth true) rest) (and_then (evaluate s i now r vars rest) (λ b rest'. Gives (truth (not (is_zero b.value))) rest'))) (λ a rest. is_zero a.value ≡ true → Honest r rest) (heeds l)
+        (λ a. or-heeds (is_zero a.value) (truth true) (λ rest. and_then (evaluate s i now r vars rest) (λ b rest'. Gives (truth (not (is_zero b.value))) rest')) (Honest r)
         (blind (reads r) (Honest r) (λ b rest'. Gives (truth (not (is_zero b.value))) rest') (heeds r) (gives-blind (λ b. truth (not (is_zero b.value))))))
     heeds (Select t l r) =
-        onward (reads t) (Honest t) (λ v rest. decide (is_zero v.value) (evaluate s i r vars rest) (evaluate s i l vars rest)) (λ v rest. (is_zero v.value ≡ false → Honest l rest) × (is_zero v.value ≡ true → Honest r rest)) (heeds t)
+        onward (reads t) (Honest t) (λ v rest. decide (is_zero v.value) (evaluate s i now r vars rest) (evaluate s i now l vars rest)) (λ v rest. (is_zero v.value ≡ false → Honest l rest) × (is_zero v.value ≡ true → Honest r rest)) (heeds t)
         (λ v. select-heeds (is_zero v.value) (reads r) (reads l) (Honest r) (Honest l) (heeds r) (heeds l))
     heeds (Minimum l r) = two l r (λ a b rest. Gives (smaller a b) rest) (heeds l) (heeds r) (λ a. gives-blind (smaller a))
     heeds (Maximum l r) = two l r (λ a b rest. Gives (larger a b) rest) (heeds l) (heeds r) (λ a. gives-blind (larger a))
+    heeds (Shift d kind l r) = two l r (λ a b rest. Gives (shifted d kind a b) rest) (heeds l) (heeds r) (λ a. gives-blind (shifted d kind a))
+    heeds (Within site n e) = blind (reads e) (Honest e) (λ k rest. settled (inside (within n k.value) k) site rest) (heeds e) (settled-blind (λ k. inside (within n k.value) k) site)
+    heeds (Opaque n at kind a b c) =
+        onward (reads a) (Honest a) (λ x rest. and_then (evaluate s i now b vars rest) (λ y rest'. and_then (evaluate s i now c vars rest') (λ z rest''. Gives (opaque s i now n at kind x y z) rest'')))
+        (λ x rest. Honest b rest × Behind (evaluate s i now b vars rest) (λ y rest'. Honest c rest')) (heeds a)
+        (λ x. two b c (λ y z rest. Gives (opaque s i now n at kind x y z) rest) (heeds b) (heeds c) (λ y. gives-blind (opaque s i now n at kind x y)))

@@ -21,3 +21,4 @@ pub mod DeviceWords
 pub mod DeviceTerms
 pub mod DeviceSteps
 pub mod Sizeless
+pub mod Machineless

@@ -17,10 +17,10 @@ load-kind s a site z (w ∷ answers) rest v h =
     let e : read s a w ≡ v = cc in
     subst (λ x. HasKind s a x) e (refl, as_kind-in_kind (element_kind s a) w.value)
 
-pub value_has_kind : (s : Setup) (i : ℕ) (a : Array) (site : Site) (index : Term) (variables answers rest : List Word) (v : Word) → evaluate s i (Load a site index) variables answers ≡ Gives v rest → HasKind s a v
+pub value_has_kind : (s : Setup) (i : ℕ) (now : List ℕ) (a : Array) (site : Site) (index : Term) (variables answers rest : List Word) (v : Word) → evaluate s i now (Load a site index) variables answers ≡ Gives v rest → HasKind s a v
 unfolding evaluate
-value_has_kind s i a site index variables answers rest v h =
-    let q = then-by (evaluate s i index variables answers) (λ k later. load s a site k.value later) v rest h in
+value_has_kind s i now a site index variables answers rest v h =
+    let q = then-by (evaluate s i now index variables answers) (λ k later. load s a site k.value later) v rest h in
     load-kind s a site q.0.value q.1 rest v q.3
 
 kind_in-space : (s : Setup) (i : ℕ) (p : Space) (n : ℕ) → kind_in s (owner_of s i p) n ≡ element_kind_in s p n

@@ -8,7 +8,7 @@ use Rattle.semantics.specs.Launch.{IsBuffer, Fits}
 use Rattle.semantics.specs.Setup.{Setup, item_count}
 use Rattle.semantics.specs.Memory.{Cell, Memory, cell, extent, kind_at, kind_in, opening_at, put, same_cell}
 use Rattle.semantics.specs.Evaluation.{Outcome, Gives, Needs, Faults, evaluate, Index, At, Outside, within}
-use Rattle.semantics.specs.Item.{Entry, Status, Running, Waiting, Ended, Stopped, Item}
+use Rattle.semantics.specs.Item.{Entry, Status, Running, Waiting, Ended, Stopped, Item, trail}
 use Rattle.semantics.specs.Ask.{Ask, Loads, Stores, Goes, Waits, Rests, on_value, stores, act, front, passes, by_status, ask}
 use Rattle.semantics.specs.World.{World, Event, Step, Release, stepped, released, happens, run, then_run, opening_world}
 use Rattle.semantics.proofs.Words.{as_kind-in_kind}
@@ -33,14 +33,14 @@ stores-kind s i it a site (At k) z rest = as_kind-in_kind (kind_at s (cell s i a
 stores-kind s i it a site Outside z rest = tt
 
 act-kind : (s : Setup) (i : ℕ) (it : Item) (st : Statement) (turns : ℕ) (rest : List Entry) → StoresKind s (act s i it st turns rest)
-act-kind s i it (Set n x e) turns rest = on_value-kind s i it (evaluate s i e it.variables it.answers) _ (λ w r. tt)
+act-kind s i it (Set n x e) turns rest = on_value-kind s i it (evaluate s i (trail it.left) e it.variables it.answers) _ (λ w r. tt)
 act-kind s i it (Store n a site k e) turns rest =
-    on_value-kind s i it (evaluate s i k it.variables it.answers)
-    (λ index later. on_value s i it (evaluate s i e it.variables later) (λ v _. stores s i it a site (within (extent s a) index.value) v.value rest))
-    (λ index later. on_value-kind s i it (evaluate s i e it.variables later) (λ v _. stores s i it a site (within (extent s a) index.value) v.value rest)
+    on_value-kind s i it (evaluate s i (trail it.left) k it.variables it.answers)
+    (λ index later. on_value s i it (evaluate s i (trail it.left) e it.variables later) (λ v _. stores s i it a site (within (extent s a) index.value) v.value rest))
+    (λ index later. on_value-kind s i it (evaluate s i (trail it.left) e it.variables later) (λ v _. stores s i it a site (within (extent s a) index.value) v.value rest)
     (λ v r. stores-kind s i it a site (within (extent s a) index.value) v.value rest))
-act-kind s i it (If n e t f) turns rest = on_value-kind s i it (evaluate s i e it.variables it.answers) _ (λ w r. tt)
-act-kind s i it (Loop n e b u) turns rest = on_value-kind s i it (evaluate s i e it.variables it.answers) _ (λ w r. tt)
+act-kind s i it (If n e t f) turns rest = on_value-kind s i it (evaluate s i (trail it.left) e it.variables it.answers) _ (λ w r. tt)
+act-kind s i it (Loop n e b u) turns rest = on_value-kind s i it (evaluate s i (trail it.left) e it.variables it.answers) _ (λ w r. tt)
 act-kind s i it (Barrier n l g) turns rest = tt
 act-kind s i it (Return n) turns rest = tt
 act-kind s i it (Break n k) turns rest = tt

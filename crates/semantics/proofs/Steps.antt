@@ -48,16 +48,16 @@ stores-fair s i it a site Outside z rest h = record { was = h; steps = refl; loc
 
 act-fair : (s : Setup) (i : ℕ) (it : Item) (st : Statement) (turns : ℕ) (rest : List Entry) → it.status ≡ Running → Fair it (act s i it st turns rest)
 act-fair s i it (Set n x e) turns rest h =
-    on_value-fair s i it (evaluate s i e it.variables it.answers) (λ v _. Goes (finished it rest (slice_set it.variables x v))) h (λ w r. record { was = h; steps = refl; local = refl; global = refl })
+    on_value-fair s i it (evaluate s i (trail it.left) e it.variables it.answers) (λ v _. Goes (finished it rest (slice_set it.variables x v))) h (λ w r. record { was = h; steps = refl; local = refl; global = refl })
 act-fair s i it (Store n a site k e) turns rest h =
-    on_value-fair s i it (evaluate s i k it.variables it.answers)
-    (λ index later. on_value s i it (evaluate s i e it.variables later) (λ v _. stores s i it a site (within (extent s a) index.value) v.value rest)) h
-    (λ index later. on_value-fair s i it (evaluate s i e it.variables later) (λ v _. stores s i it a site (within (extent s a) index.value) v.value rest) h
+    on_value-fair s i it (evaluate s i (trail it.left) k it.variables it.answers)
+    (λ index later. on_value s i it (evaluate s i (trail it.left) e it.variables later) (λ v _. stores s i it a site (within (extent s a) index.value) v.value rest)) h
+    (λ index later. on_value-fair s i it (evaluate s i (trail it.left) e it.variables later) (λ v _. stores s i it a site (within (extent s a) index.value) v.value rest) h
     (λ v r. stores-fair s i it a site (within (extent s a) index.value) v.value rest h))
 act-fair s i it (If n e t f) turns rest h =
-    on_value-fair s i it (evaluate s i e it.variables it.answers) (λ v _. Goes (finished it (choose (is_zero v.value) (enter f rest) (enter t rest)) it.variables)) h (λ w r. record { was = h; steps = refl; local = refl; global = refl })
+    on_value-fair s i it (evaluate s i (trail it.left) e it.variables it.answers) (λ v _. Goes (finished it (choose (is_zero v.value) (enter f rest) (enter t rest)) it.variables)) h (λ w r. record { was = h; steps = refl; local = refl; global = refl })
 act-fair s i it (Loop n e b u) turns rest h =
-    on_value-fair s i it (evaluate s i e it.variables it.answers) (λ v _. Goes (finished it (choose (is_zero v.value) rest (enter b (enter u (record { statement = Loop n e b u; turns = turns + 1 } ∷ rest)))) it.variables)) h (λ w r. record { was = h; steps = refl; local = refl; global = refl })
+    on_value-fair s i it (evaluate s i (trail it.left) e it.variables it.answers) (λ v _. Goes (finished it (choose (is_zero v.value) rest (enter b (enter u (record { statement = Loop n e b u; turns = turns + 1 } ∷ rest)))) it.variables)) h (λ w r. record { was = h; steps = refl; local = refl; global = refl })
 act-fair s i it (Barrier n l g) turns rest h = record { was = h; steps = refl; local = refl; global = refl }
 act-fair s i it (Return n) turns rest h = record { was = h; steps = refl; local = refl; global = refl }
 act-fair s i it (Break n k) turns rest h = record { was = h; steps = refl; local = refl; global = refl }

@@ -5,7 +5,7 @@ use Rattle.semantics.specs.Core.{Site, Array, Statement, Set, Store, If, Loop, B
 use Rattle.semantics.specs.Setup.{Setup}
 use Rattle.semantics.specs.Memory.{Cell, cell, extent, kind_at}
 use Rattle.semantics.specs.Evaluation.{Outcome, Gives, Needs, Faults, evaluate, Index, At, Outside, within}
-use Rattle.semantics.specs.Item.{Entry, Status, Running, Waiting, Ended, Stopped, Item, enter, status_of, finished, stands, leave, resume, local_flag, global_flag}
+use Rattle.semantics.specs.Item.{Entry, Status, Running, Waiting, Ended, Stopped, Item, enter, status_of, finished, stands, leave, resume, local_flag, global_flag, trail}
 
 -- a load of an element, a store of a number to it, a step with neither, the passing of a barrier, or nothing
 pub data Ask : Type 0 where
@@ -40,16 +40,16 @@ choose false if_true if_false = if_false
 -- by the statement in front, its turns and what is left behind it (C99 6.8.4, 6.8.5 and 6.8.6)
 abbrev pub act : Setup → ℕ → Item → Statement → ℕ → List Entry → Ask
 act s i it (Set n x e) turns rest =
-    on_value s i it (evaluate s i e it.variables it.answers) (λ v _. Goes (finished it rest (slice_set it.variables x v)))
+    on_value s i it (evaluate s i (trail it.left) e it.variables it.answers) (λ v _. Goes (finished it rest (slice_set it.variables x v)))
 act s i it (Store n a site k e) turns rest =
-    on_value s i it (evaluate s i k it.variables it.answers) (λ index later.
-    on_value s i it (evaluate s i e it.variables later) (λ v _.
+    on_value s i it (evaluate s i (trail it.left) k it.variables it.answers) (λ index later.
+    on_value s i it (evaluate s i (trail it.left) e it.variables later) (λ v _.
     stores s i it a site (within (extent s a) index.value) v.value rest))
 act s i it (If n e taken skipped) turns rest =
-    on_value s i it (evaluate s i e it.variables it.answers) (λ v _.
+    on_value s i it (evaluate s i (trail it.left) e it.variables it.answers) (λ v _.
     Goes (finished it (choose (is_zero v.value) (enter skipped rest) (enter taken rest)) it.variables))
 act s i it (Loop n e body update) turns rest =
-    on_value s i it (evaluate s i e it.variables it.answers) (λ v _.
+    on_value s i it (evaluate s i (trail it.left) e it.variables it.answers) (λ v _.
     Goes (finished it (choose (is_zero v.value) rest
     (enter body (enter update (record { statement = Loop n e body update; turns = turns + 1 } ∷ rest)))) it.variables))
 act s i it (Barrier n l g) turns rest = Goes (stands it Waiting)

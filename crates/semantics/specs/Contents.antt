@@ -2,7 +2,7 @@
 use Rattle.std.specs.Prelude.{ℕ, zero, suc, ◌≡◌, ◌<◌, length, slice_index_or, ℤ, List, [], ◌∷◌, true, false}
 use Rattle.std.specs.List.{All}
 use Rattle.semantics.specs.Word.{Word, as_kind, is_zero}
-use Rattle.semantics.specs.Core.{Array, Space, Global, Local, Term, Literal, Variable, Id, Load, Unary, Binary, Convert, Compare, Not, And, Or, Select, Minimum, Maximum, Statement, Set, Store, If, Loop, Barrier, Return, Break, Continue}
+use Rattle.semantics.specs.Core.{Array, Space, Global, Local, Term, Literal, Variable, Id, Load, Unary, Binary, Convert, Compare, Not, And, Or, Select, Minimum, Maximum, Shift, Within, Opaque, Statement, Set, Store, If, Loop, Barrier, Return, Break, Continue}
 use Rattle.semantics.specs.Setup.{Setup}
 use Rattle.semantics.specs.Memory.{Cell, Memory, kind_at, element_kind}
 use Rattle.semantics.specs.Evaluation.{Outcome, Gives, Needs, Faults, evaluate}
@@ -71,31 +71,34 @@ Behind (Needs a index site) P = Unit {0}
 Behind (Faults f site) P = Unit {0}
 
 -- the answers to the loads of a term, of those that are given so far, all are
-abbrev pub HonestTerm : Setup → List Content → ℕ → Term → (vars answers : List Word) → Type 0
-HonestTerm s cs i (Literal k z) vars answers = Unit {0}
-HonestTerm s cs i (Variable x) vars answers = Unit {0}
-HonestTerm s cs i (Id k f d) vars answers = Unit {0}
-HonestTerm s cs i (Load a site index) vars answers = HonestTerm s cs i index vars answers × Behind (evaluate s i index vars answers) (λ k rest. FirstHeld s cs a rest)
-HonestTerm s cs i (Unary op kind site e) vars answers = HonestTerm s cs i e vars answers
-HonestTerm s cs i (Binary op kind site left right) vars answers = HonestTerm s cs i left vars answers × Behind (evaluate s i left vars answers) (λ a rest. HonestTerm s cs i right vars rest)
-HonestTerm s cs i (Convert kind site e) vars answers = HonestTerm s cs i e vars answers
-HonestTerm s cs i (Compare r kind left right) vars answers = HonestTerm s cs i left vars answers × Behind (evaluate s i left vars answers) (λ a rest. HonestTerm s cs i right vars rest)
-HonestTerm s cs i (Not e) vars answers = HonestTerm s cs i e vars answers
-HonestTerm s cs i (And left right) vars answers = HonestTerm s cs i left vars answers × Behind (evaluate s i left vars answers) (λ a rest. is_zero a.value ≡ false → HonestTerm s cs i right vars rest)
-HonestTerm s cs i (Or left right) vars answers = HonestTerm s cs i left vars answers × Behind (evaluate s i left vars answers) (λ a rest. is_zero a.value ≡ true → HonestTerm s cs i right vars rest)
-HonestTerm s cs i (Select test taken skipped) vars answers =
-    HonestTerm s cs i test vars answers
-    × Behind (evaluate s i test vars answers) (λ t rest. (is_zero t.value ≡ false → HonestTerm s cs i taken vars rest) × (is_zero t.value ≡ true → HonestTerm s cs i skipped vars rest))
-HonestTerm s cs i (Minimum left right) vars answers = HonestTerm s cs i left vars answers × Behind (evaluate s i left vars answers) (λ a rest. HonestTerm s cs i right vars rest)
-HonestTerm s cs i (Maximum left right) vars answers = HonestTerm s cs i left vars answers × Behind (evaluate s i left vars answers) (λ a rest. HonestTerm s cs i right vars rest)
+abbrev pub HonestTerm : Setup → List Content → ℕ → (now : List ℕ) → Term → (vars answers : List Word) → Type 0
+HonestTerm s cs i now (Literal k z) vars answers = Unit {0}
+HonestTerm s cs i now (Variable x) vars answers = Unit {0}
+HonestTerm s cs i now (Id k f d) vars answers = Unit {0}
+HonestTerm s cs i now (Load a site index) vars answers = HonestTerm s cs i now index vars answers × Behind (evaluate s i now index vars answers) (λ k rest. FirstHeld s cs a rest)
+HonestTerm s cs i now (Unary op kind site e) vars answers = HonestTerm s cs i now e vars answers
+HonestTerm s cs i now (Binary op kind site left right) vars answers = HonestTerm s cs i now left vars answers × Behind (evaluate s i now left vars answers) (λ a rest. HonestTerm s cs i now right vars rest)
+HonestTerm s cs i now (Convert kind site e) vars answers = HonestTerm s cs i now e vars answers
+HonestTerm s cs i now (Compare r kind left right) vars answers = HonestTerm s cs i now left vars answers × Behind (evaluate s i now left vars answers) (λ a rest. HonestTerm s cs i now right vars rest)
+HonestTerm s cs i now (Not e) vars answers = HonestTerm s cs i now e vars answers
+HonestTerm s cs i now (And left right) vars answers = HonestTerm s cs i now left vars answers × Behind (evaluate s i now left vars answers) (λ a rest. is_zero a.value ≡ false → HonestTerm s cs i now right vars rest)
+HonestTerm s cs i now (Or left right) vars answers = HonestTerm s cs i now left vars answers × Behind (evaluate s i now left vars answers) (λ a rest. is_zero a.value ≡ true → HonestTerm s cs i now right vars rest)
+HonestTerm s cs i now (Select test taken skipped) vars answers =
+    HonestTerm s cs i now test vars answers
+    × Behind (evaluate s i now test vars answers) (λ t rest. (is_zero t.value ≡ false → HonestTerm s cs i now taken vars rest) × (is_zero t.value ≡ true → HonestTerm s cs i now skipped vars rest))
+HonestTerm s cs i now (Minimum left right) vars answers = HonestTerm s cs i now left vars answers × Behind (evaluate s i now left vars answers) (λ a rest. HonestTerm s cs i now right vars rest)
+HonestTerm s cs i now (Maximum left right) vars answers = HonestTerm s cs i now left vars answers × Behind (evaluate s i now left vars answers) (λ a rest. HonestTerm s cs i now right vars rest)
+HonestTerm s cs i now (Shift d k value count) vars answers = HonestTerm s cs i now value vars answers × Behind (evaluate s i now value vars answers) (λ a rest. HonestTerm s cs i now count vars rest)
+HonestTerm s cs i now (Within site n index) vars answers = HonestTerm s cs i now index vars answers
+HonestTerm s cs i now (Opaque n at k a b c) vars answers = HonestTerm s cs i now a vars answers × Behind (evaluate s i now a vars answers) (λ x rest. HonestTerm s cs i now b vars rest × Behind (evaluate s i now b vars rest) (λ y rest'. HonestTerm s cs i now c vars rest'))
 
 -- those to the loads of the statement in front
-abbrev pub HonestFront : Setup → List Content → ℕ → Statement → (vars answers : List Word) → Type 0
-HonestFront s cs i (Set n x e) vars answers = HonestTerm s cs i e vars answers
-HonestFront s cs i (Store n a site k e) vars answers = HonestTerm s cs i k vars answers × Behind (evaluate s i k vars answers) (λ index later. HonestTerm s cs i e vars later)
-HonestFront s cs i (If n e taken skipped) vars answers = HonestTerm s cs i e vars answers
-HonestFront s cs i (Loop n e body update) vars answers = HonestTerm s cs i e vars answers
-HonestFront s cs i (Barrier n l g) vars answers = Unit {0}
-HonestFront s cs i (Return n) vars answers = Unit {0}
-HonestFront s cs i (Break n loop) vars answers = Unit {0}
-HonestFront s cs i (Continue n loop) vars answers = Unit {0}
+abbrev pub HonestFront : Setup → List Content → ℕ → (now : List ℕ) → Statement → (vars answers : List Word) → Type 0
+HonestFront s cs i now (Set n x e) vars answers = HonestTerm s cs i now e vars answers
+HonestFront s cs i now (Store n a site k e) vars answers = HonestTerm s cs i now k vars answers × Behind (evaluate s i now k vars answers) (λ index later. HonestTerm s cs i now e vars later)
+HonestFront s cs i now (If n e taken skipped) vars answers = HonestTerm s cs i now e vars answers
+HonestFront s cs i now (Loop n e body update) vars answers = HonestTerm s cs i now e vars answers
+HonestFront s cs i now (Barrier n l g) vars answers = Unit {0}
+HonestFront s cs i now (Return n) vars answers = Unit {0}
+HonestFront s cs i now (Break n loop) vars answers = Unit {0}
+HonestFront s cs i now (Continue n loop) vars answers = Unit {0}

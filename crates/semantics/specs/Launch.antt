@@ -1,5 +1,5 @@
 -- A kernel's outer form, and what a launch gives it (OpenCL 1.2, 3.2 and 5.8).
-use Rattle.std.specs.Prelude.{ℕ, ◌≤◌, ◌<◌, ◌^◌, ◌*◌, ◌≡◌, ℤ, List, length, true}
+use Rattle.std.specs.Prelude.{ℕ, ◌≤◌, ◌<◌, ◌^◌, ◌*◌, ◌≡◌, ℤ, pos, List, length, true}
 use Rattle.std.specs.List.{All, AllZip}
 use Rattle.semantics.specs.Word.{Kind, Word, in_kind}
 use Rattle.semantics.specs.Core.{Statements}
@@ -27,13 +27,33 @@ pub record Kernel : Type 0 where
   pub variables : List Kind
   pub body : Statements
 
+-- an operation that is not reckoned, as it is done: which one, where it stands, by which item and when (by the trail of what it has
+-- left), and with which operands
+pub record Operation : Type 0 where
+  pub operation : ℕ
+  pub place : ℕ
+  pub item : ℕ
+  pub moment : List ℕ
+  pub first : ℤ
+  pub second : ℤ
+  pub third : ℤ
+
+-- what a device gives for each: any numbers, of which the 32 bits are taken (ours)
+abbrev pub Machine : Type 0
+Machine = Operation → ℤ
+
+-- the one that gives 0: texts of launches say nothing of a machine, and mean this one (ours)
+abbrev pub silent : Machine
+silent o = pos 0
+
 -- group counts, an argument for each value parameter, a list of numbers for each buffer parameter, each with memory of
--- its own, and the word that fills local arrays
+-- its own, the word that fills local arrays, and what the device gives for operations that are not reckoned
 pub record Launch : Type 0 where
   pub groups : Three ℕ
   pub arguments : List Word
   pub buffers : List (List ℤ)
   pub fill : ℕ
+  pub machine : Machine
 
 abbrev pub IsCount : ℕ → Type 0
 IsCount n = (1 ≤ n) × (n ≤ 65536)

@@ -15,3 +15,4 @@ pub mod Rounds
 pub mod Headline
 pub mod Conditions
 pub mod Sizes
+pub mod Machines

@@ -9,24 +9,24 @@ ghost use Rattle.semantics.specs.Ask.{Ask, Loads, Stores, ask};
 ghost use Rattle.semantics.specs.Safety.{IsPairSafe, IsPairSafeWithin};
 ghost use Rattle.semantics.specs.Memory.{Cell, Memory, element_kind, extent, kind_at, opening_memory, put};
 ghost use Rattle.semantics.specs.Evaluation.{evaluate, Needs};
-ghost use Rattle.semantics.specs.Item.{Entry, Item};
+ghost use Rattle.semantics.specs.Item.{Entry, Item, trail};
 ghost use Rattle.semantics.specs.Solo.{after};
 ghost use Rattle.semantics.specs.Conditions.{Content, Conditions, Meets};
 ghost use Rattle.semantics.specs.Contents.{HoldsOf, HonestTerm, HonestFront, IsHonest, IsInside, IsKept, Heeds, StoresKept};
 
 /// The answers to a term's loads stay honest when one more comes that is, to the load that has none.
 pub fn terms_stay_honest()
-    ensures { (s : Setup) (cs : List Content) (i : ℕ) (e : Term) (variables answers : List Word) (a : Array) (k : ℕ) (site : Site) (w : Word) → evaluate s i e variables answers ≡ Needs a k site → HoldsOf s cs a.space a.number (as_kind (element_kind s a) w.value) → HonestTerm s cs i e variables answers → HonestTerm s cs i e variables (answers ++ w ∷ []) }
+    ensures { (s : Setup) (cs : List Content) (i : ℕ) (now : List ℕ) (e : Term) (variables answers : List Word) (a : Array) (k : ℕ) (site : Site) (w : Word) → evaluate s i now e variables answers ≡ Needs a k site → HoldsOf s cs a.space a.number (as_kind (element_kind s a) w.value) → HonestTerm s cs i now e variables answers → HonestTerm s cs i now e variables (answers ++ w ∷ []) }
 {}
 
 /// The load that a term asks for is of an element that its array has.
 pub fn terms_ask_inside()
-    ensures { (s : Setup) (i : ℕ) (e : Term) (variables answers : List Word) (a : Array) (k : ℕ) (site : Site) → evaluate s i e variables answers ≡ Needs a k site → k < extent s a }
+    ensures { (s : Setup) (i : ℕ) (now : List ℕ) (e : Term) (variables answers : List Word) (a : Array) (k : ℕ) (site : Site) → evaluate s i now e variables answers ≡ Needs a k site → k < extent s a }
 {}
 
 /// In each state of an honest solo run the answers to the loads of the statement in front are honest.
 pub fn fronts_are_honest()
-    ensures { (s : Setup) (cs : List Content) (i : ℕ) (ws : List ℤ) (e : Entry) (rest : List Entry) → IsHonest s cs i ws → (after s i ws).left ≡ e ∷ rest → HonestFront s cs i e.statement (after s i ws).variables (after s i ws).answers }
+    ensures { (s : Setup) (cs : List Content) (i : ℕ) (ws : List ℤ) (e : Entry) (rest : List Entry) → IsHonest s cs i ws → (after s i ws).left ≡ e ∷ rest → HonestFront s cs i (trail (after s i ws).left) e.statement (after s i ws).variables (after s i ws).answers }
 {}
 
 /// Where no line bounds what buffers hold, every solo run is honest and every memory is kept; and what holds of honest solo runs is

@@ -7,6 +7,7 @@
 
 pub mod devices;
 pub mod honesty;
+pub mod machines;
 pub mod numbers;
 pub mod solo_runs;
 pub mod worlds;

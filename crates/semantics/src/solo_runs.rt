@@ -12,12 +12,12 @@ ghost use Rattle.semantics.specs.Safety.{WaitAlike, EndsLast};
 
 /// More answers change nothing once a value is given.
 pub fn more_answers_change_nothing()
-    ensures { (s : Setup) (i : ℕ) (e : Term) (variables answers rest more : List Word) (v : Word) → evaluate s i e variables answers ≡ Gives v rest → evaluate s i e variables (answers ++ more) ≡ Gives v (rest ++ more) }
+    ensures { (s : Setup) (i : ℕ) (now : List ℕ) (e : Term) (variables answers rest more : List Word) (v : Word) → evaluate s i now e variables answers ≡ Gives v rest → evaluate s i now e variables (answers ++ more) ≡ Gives v (rest ++ more) }
 {}
 
 /// A load's value is a number of its array's kind, whatever the answers are; and that is the kind of the array's elements in memory.
 pub fn loads_have_their_kind()
-    ensures value { (s : Setup) (i : ℕ) (a : Array) (site : Site) (index : Term) (variables answers rest : List Word) (v : Word) → evaluate s i (Load a site index) variables answers ≡ Gives v rest → (v.kind ≡ element_kind s a) × (in_kind v.kind v.value ≡ true) }
+    ensures value { (s : Setup) (i : ℕ) (now : List ℕ) (a : Array) (site : Site) (index : Term) (variables answers rest : List Word) (v : Word) → evaluate s i now (Load a site index) variables answers ≡ Gives v rest → (v.kind ≡ element_kind s a) × (in_kind v.kind v.value ≡ true) }
     ensures element { (s : Setup) (i k : ℕ) (a : Array) → kind_at s (cell s i a k) ≡ element_kind s a }
 {}
 

@@ -1,6 +1,7 @@
 -- What is declared stays declared where more is.
 use Rattle.std.proofs.Common.{ℕ, ◌≤◌, arith}
-use Rattle.semantics.specs.Core.{Space, Global, Local, Term, Literal, Variable, Id, Load, Unary, Binary, Convert, Compare, Not, And, Or, Select, Minimum, Maximum, Statement, Set, Store, If, Loop, Barrier, Return, Break, Continue, Statements, none, one}
+use Rattle.semantics.specs.Core as core
+use Rattle.semantics.specs.Core.{Space, Global, Local, Term, Literal, Variable, Id, Load, Unary, Binary, Convert, Compare, Not, And, Or, Select, Minimum, Maximum, Shift, Opaque, Statement, Set, Store, If, Loop, Barrier, Return, Break, Continue, Statements, none, one}
 use Rattle.texts.specs.Elaboration.{join}
 use Rattle.shown_kernels.specs.Declared.{Declared, IsOf, TermWithin, Within, AllWithin}
 
@@ -34,6 +35,9 @@ term-grows d e g (Or left right) h = (term-grows d e g left h.0, term-grows d e 
 term-grows d e g (Select test taken skipped) h = (term-grows d e g test h.0, term-grows d e g taken h.1, term-grows d e g skipped h.2)
 term-grows d e g (Minimum left right) h = (term-grows d e g left h.0, term-grows d e g right h.1)
 term-grows d e g (Maximum left right) h = (term-grows d e g left h.0, term-grows d e g right h.1)
+term-grows d e g (Shift o k value count) h = (term-grows d e g value h.0, term-grows d e g count h.1)
+term-grows d e g (core.Within site n index) h = term-grows d e g index h
+term-grows d e g (Opaque n at k a b c) h = (term-grows d e g a h.0, term-grows d e g b h.1, term-grows d e g c h.2)
 
 mutual
   pub statement-grows : (d e : Declared) → Grows d e → (s : Statement) → Within d s → Within e s

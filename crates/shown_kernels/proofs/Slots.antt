@@ -1,7 +1,8 @@
 -- What names slots that are declared names none past the last one.
 use Rattle.std.proofs.Common.{◌≡◌, ℕ, List}
 use Rattle.std.specs.Prelude.{Ok}
-use Rattle.semantics.specs.Core.{Term, Literal, Variable, Id, Load, Unary, Binary, Convert, Compare, Not, And, Or, Select, Minimum, Maximum, Statement, Set, Store, If, Loop, Barrier, Return, Break, Continue, Statements, none, one}
+use Rattle.semantics.specs.Core as core
+use Rattle.semantics.specs.Core.{Term, Literal, Variable, Id, Load, Unary, Binary, Convert, Compare, Not, And, Or, Select, Minimum, Maximum, Shift, Opaque, Statement, Set, Store, If, Loop, Barrier, Return, Break, Continue, Statements, none, one}
 use Rattle.lanes.specs.Lowering as lanes
 use Rattle.reading.specs.Kernels.{Kernel, Source, read}
 use Rattle.shown_kernels.specs.Declared.{Declared, declared_by, TermWithin, Within, AllWithin}
@@ -23,6 +24,9 @@ module _ (d : Declared) where
   term-slots (Select test taken skipped) h = (term-slots test h.0, term-slots taken h.1, term-slots skipped h.2)
   term-slots (Minimum left right) h = (term-slots left h.0, term-slots right h.1)
   term-slots (Maximum left right) h = (term-slots left h.0, term-slots right h.1)
+  term-slots (Shift o k value count) h = (term-slots value h.0, term-slots count h.1)
+  term-slots (core.Within site n index) h = term-slots index h
+  term-slots (Opaque n at k a b c) h = (term-slots a h.0, term-slots b h.1, term-slots c h.2)
 
   mutual
     slots : (st : Statement) → Within d st → lanes.Within d.slots st

@@ -1,6 +1,7 @@
 -- What a kernel's statements name is declared: slots, buffers and local arrays, each by a number below how many there are.
 use Rattle.std.specs.Prelude.{ℕ, ◌+◌, ◌<◌, length}
-use Rattle.semantics.specs.Core.{Space, Global, Local, Array, Term, Literal, Variable, Id, Load, Unary, Binary, Convert, Compare, Not, And, Or, Select, Minimum, Maximum, Statement, Set, Store, If, Loop, Barrier, Return, Break, Continue, Statements, none, one}
+use Rattle.semantics.specs.Core as core
+use Rattle.semantics.specs.Core.{Space, Global, Local, Array, Term, Literal, Variable, Id, Load, Unary, Binary, Convert, Compare, Not, And, Or, Select, Minimum, Maximum, Shift, Opaque, Statement, Set, Store, If, Loop, Barrier, Return, Break, Continue, Statements, none, one}
 use Rattle.semantics.specs.Launch.{Kernel}
 
 -- how many of each there are
@@ -34,6 +35,9 @@ TermWithin d (Or left right) = TermWithin d left × TermWithin d right
 TermWithin d (Select test taken skipped) = TermWithin d test × TermWithin d taken × TermWithin d skipped
 TermWithin d (Minimum left right) = TermWithin d left × TermWithin d right
 TermWithin d (Maximum left right) = TermWithin d left × TermWithin d right
+TermWithin d (Shift o k value count) = TermWithin d value × TermWithin d count
+TermWithin d (core.Within site n index) = TermWithin d index
+TermWithin d (Opaque n at k a b c) = TermWithin d a × TermWithin d b × TermWithin d c
 
 abbrev mutual
   pub Within : Declared → Statement → Type 0

@@ -1,7 +1,7 @@
 //! A work-item, and the values of terms.
 
 use crate::holding::Span;
-use crate::operations::{calculated, changed, compared, settled, truth};
+use crate::operations::{calculated, changed, compared, settled, shifted, truth, within};
 use crate::random::Random;
 use core_code::tree::{Array, Core, Function, Space, Term};
 use words::Kind;
@@ -178,6 +178,32 @@ pub fn value_of(item: &mut Item<'_>, term: &Term) -> Option<i64> {
             let first = value_of(item, left)?;
             let second = value_of(item, right)?;
             Some(if first > second { first } else { second })
+        }
+        Term::Shift {
+            direction,
+            kind,
+            value,
+            count,
+        } => {
+            let value = value_of(item, value)?;
+            let count = value_of(item, count)?;
+            Some(shifted(*direction, *kind, value, count))
+        }
+        Term::Within { length, index, .. } => {
+            let index = value_of(item, index)?;
+            within(*length, index)
+        }
+        Term::Opaque {
+            kind,
+            first,
+            second,
+            third,
+            ..
+        } => {
+            let _first = value_of(item, first)?;
+            let _second = value_of(item, second)?;
+            let _third = value_of(item, third)?;
+            Some(item.random.loaded(*kind))
         }
     }
 }

@@ -1,6 +1,6 @@
 //! Operations on whole numbers that stand for words of a kind; nothing where a work-item may not go on.
 
-use core_code::tree::{Operator, Relation, UnaryOperator};
+use core_code::tree::{Direction, Operator, Relation, UnaryOperator};
 use words::Kind;
 
 /// A number where it is from `low` to `high`.
@@ -93,6 +93,30 @@ fn shifted_right(value: i64, count: u32) -> Option<i64> {
         return None;
     }
     Some(value >> count)
+}
+
+/// The word of a kind that has the low 32 bits of a number.
+fn read_bits(kind: Kind, value: i64) -> i64 {
+    let bits = value.rem_euclid(0x1_0000_0000);
+    match kind {
+        Kind::Int if bits >= 0x8000_0000 => bits - 0x1_0000_0000,
+        Kind::Int | Kind::Uint | Kind::Size => bits,
+    }
+}
+
+/// A number shifted as far as the lowest five bits of another say; to the right it is rounded down.
+pub fn shifted(direction: Direction, kind: Kind, value: i64, count: i64) -> i64 {
+    let value = read_bits(kind, value);
+    let count = count.rem_euclid(32) as u32;
+    match direction {
+        Direction::Leftward => read_bits(kind, value << count),
+        Direction::Rightward => value >> count,
+    }
+}
+
+/// An index that lies among so many elements.
+pub fn within(length: u32, index: i64) -> Option<i64> {
+    among(0, length as i64 - 1, index)
 }
 
 /// 1 where the relation holds, otherwise 0.

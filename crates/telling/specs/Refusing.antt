@@ -1,5 +1,5 @@
 -- What stands behind a line that refuses: its number and its place are those of an error that is true of the texts.
-use Rattle.std.specs.Prelude.{◌≡◌, ◌⊎◌, ℕ, List, Bool, Ok, Err, Option}
+use Rattle.std.specs.Prelude.{◌≡◌, ◌⊎◌, ℕ, List, Bool, false, Ok, Err, Option}
 use Rattle.semantics.specs.Conditions as meaning
 use Rattle.texts.specs.LaunchReading.{launch_of}
 use Rattle.reading.specs.Kernels.{Kernel, read, Source}
@@ -19,6 +19,8 @@ use Rattle.cert_check.specs.declared.error.CheckError.{CheckError}
 use Rattle.executor.specs.Numbers as runs
 use Rattle.executor.specs.Results.{Answers}
 use Rattle.executor.specs.declared.error.RunError.{RunError}
+use Rattle.executor.specs.declared.error.RunError.TheVariants.{Unreckoned}
+use Rattle.work_item.specs.Reckoned.{is_reckoned}
 use Rattle.telling.specs.Refusals.{refusal_line, place_seen}
 use Rattle.telling.specs.Telling.{AreSafeTexts}
 
@@ -34,6 +36,11 @@ IsRefusedKernel kernel line = (e : KernelError) × kernels.Refuses e (read kerne
 abbrev pub IsRefusedText : (is_wide : Bool) → (kernel : Source) (conditions certificate line : List ℕ) → Type 0
 IsRefusedText is_wide kernel conditions certificate line = (e : CheckError) × RefusesBy is_wide e kernel conditions certificate × IsLineOf (checks.error_number e) (checks.error_place e) line
 
+-- the kernel is accepted, and is not run: an operation that is not reckoned stands in it
+abbrev pub IsUnreckonedText : (is_wide : Bool) → (kernel : Source) (conditions line : List ℕ) → Type 0
+IsUnreckonedText is_wide kernel conditions line =
+    (k : Kernel) × (c : meaning.Conditions) × AreSafeTexts is_wide kernel conditions k c × (is_reckoned k.core ≡ false) × IsLineOf (runs.error_number Unreckoned) (at_line (runs.error_line Unreckoned)) line
+
 -- the kernel is accepted, and the launch's text is refused
 abbrev pub IsUnreadText : (is_wide : Bool) → (kernel : Source) (conditions launch line : List ℕ) → Type 0
 IsUnreadText is_wide kernel conditions launch line =
@@ -44,8 +51,8 @@ IsUnreadText is_wide kernel conditions launch line =
 abbrev pub IsUnrunText : (is_wide : Bool) → (workers : ℕ) → (kernel : Source) (conditions launch line : List ℕ) → Type 0
 IsUnrunText is_wide workers kernel conditions launch line =
     (e : RunError) × (k : Kernel) × (c : Conditions) × (l : Launch) × AreSafeTexts is_wide kernel conditions k (conditions_seen c) × (launch_of k.tree.parameters launch ≡ Ok (reading.launch l))
-    × Answers c (launch_seen l) workers (Err e) × IsLineOf (runs.error_number e) (at_line (runs.error_line e)) line
+    × Answers k.core c (launch_seen l) workers (Err e) × IsLineOf (runs.error_number e) (at_line (runs.error_line e)) line
 
 -- one of these
 abbrev pub IsUnanswered : (is_wide : Bool) → (workers : ℕ) → (kernel : Source) (conditions certificate launch line : List ℕ) → Type 0
-IsUnanswered is_wide workers kernel conditions certificate launch line = IsRefusedText is_wide kernel conditions certificate line ⊎ (IsUnreadText is_wide kernel conditions launch line ⊎ IsUnrunText is_wide workers kernel conditions launch line)
+IsUnanswered is_wide workers kernel conditions certificate launch line = IsRefusedText is_wide kernel conditions certificate line ⊎ (IsUnreckonedText is_wide kernel conditions line ⊎ (IsUnreadText is_wide kernel conditions launch line ⊎ IsUnrunText is_wide workers kernel conditions launch line))

@@ -23,7 +23,7 @@ mod refusal;
 
 use cert_check::check_as;
 use cert_check::error::{CheckError, Pointer};
-use executor::{RunError, run};
+use executor::{RunError, can_run_accepted, run};
 pub use explained::{explain_check, explain_texts};
 use launch_text::error::LaunchTextError;
 use launch_text::laws::{
@@ -92,7 +92,7 @@ fn unread(alloc: Global, error: &LaunchTextError) -> Verdict
     refused(alloc, error.number(), line_of(error.place()))
 }
 
-/// The refusal of a launch that was read, as a line of its number and place.
+/// The refusal of a kernel that is not run, or of a launch that was read, as a line of its number and place.
 fn not_run(alloc: Global, error: &RunError) -> Verdict
     ensures { IsRefusal (runs.error_number error.now) (at_line (runs.error_line error.now)) result }
 {
@@ -147,6 +147,9 @@ pub fn run_texts<R: Threads + Wait + Sync>(
         Ok(accepted) => accepted,
         Err(error) => return unaccepted(alloc, &error),
     };
+    if let Err(error) = can_run_accepted(&accepted) {
+        return not_run(alloc, &error);
+    }
     let launch = match read_launch(alloc, accepted.typed(), launch) {
         Ok(launch) => launch,
         Err(error) => return unread(alloc, &error),

@@ -153,7 +153,7 @@ pub fn affine(alloc: Global, frame: &Frame, term: &Term) -> Result<Option<Form>,
             dimension,
             ..
         } => id_form(alloc, frame, *function, *dimension),
-        Term::Convert { of, .. } => affine(alloc, frame, of),
+        Term::Convert { of, .. } | Term::Within { index: of, .. } => affine(alloc, frame, of),
         Term::Unary { operator, of, .. } => {
             let of = affine(alloc, frame, of)?;
             changed(alloc, *operator, of)
@@ -174,7 +174,9 @@ pub fn affine(alloc: Global, frame: &Frame, term: &Term) -> Result<Option<Form>,
         | Term::Or { .. }
         | Term::Select { .. }
         | Term::Minimum { .. }
-        | Term::Maximum { .. } => Ok(None),
+        | Term::Maximum { .. }
+        | Term::Shift { .. }
+        | Term::Opaque { .. } => Ok(None),
     }
 }
 

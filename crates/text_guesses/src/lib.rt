@@ -15,8 +15,9 @@ mod test_forms;
 mod turning;
 mod walking;
 mod ways;
+mod weights;
 
 pub use plain::guess_plainly;
 pub use scan::numbers_of;
-pub use walking::guess_rankings;
+pub use walking::{guess_rankings, guess_weighted};
 pub use ways::Options;

@@ -274,7 +274,9 @@ pub fn limits_of(
         return single(alloc, form);
     }
     match term {
-        Term::Convert { of, .. } => limits_of(alloc, frame, of, side),
+        Term::Convert { of, .. } | Term::Within { index: of, .. } => {
+            limits_of(alloc, frame, of, side)
+        }
         Term::Unary { operator, of, .. } => {
             let within = limits_of(alloc, frame, of, side_within(*operator, side))?;
             changed(alloc, *operator, within.as_slice(), side)

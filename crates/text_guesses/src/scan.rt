@@ -80,18 +80,33 @@ fn scan_term(term: &Term, found: &mut Found) -> Result<(), AllocError> {
         | Term::And { left, right }
         | Term::Or { left, right }
         | Term::Minimum { left, right }
-        | Term::Maximum { left, right } => {
+        | Term::Maximum { left, right }
+        | Term::Shift {
+            value: left,
+            count: right,
+            ..
+        } => {
             scan_term(left, found)?;
             scan_term(right, found)
         }
         Term::Select {
-            test,
-            taken,
-            skipped,
+            test: first,
+            taken: second,
+            skipped: third,
+        }
+        | Term::Opaque {
+            first,
+            second,
+            third,
+            ..
         } => {
-            scan_term(test, found)?;
-            scan_term(taken, found)?;
-            scan_term(skipped, found)
+            scan_term(first, found)?;
+            scan_term(second, found)?;
+            scan_term(third, found)
+        }
+        Term::Within { length, index, .. } => {
+            found.enter(u64::from(*length))?;
+            scan_term(index, found)
         }
     }
 }

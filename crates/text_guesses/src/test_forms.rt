@@ -157,7 +157,9 @@ pub fn keep_test(
 ) -> Result<(), AllocError> {
     match test {
         Term::Not { of } => keep_test(alloc, frame, of, !truth, forms),
-        Term::Convert { of, .. } => keep_test(alloc, frame, of, truth, forms),
+        Term::Convert { of, .. } | Term::Within { index: of, .. } => {
+            keep_test(alloc, frame, of, truth, forms)
+        }
         Term::And { left, right } => {
             if !truth {
                 return Ok(());

@@ -84,7 +84,7 @@ fn shrinks(operator: UnaryOperator) -> bool {
 /// algorithm.
 fn is_halved(alloc: Global, frame: &Frame, term: &Term) -> Result<bool, AllocError> {
     match term {
-        Term::Convert { of, .. } => is_halved(alloc, frame, of),
+        Term::Convert { of, .. } | Term::Within { index: of, .. } => is_halved(alloc, frame, of),
         Term::Unary { operator, .. } => Ok(shrinks(*operator)),
         Term::Binary {
             operator: Operator::Divide,

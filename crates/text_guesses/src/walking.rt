@@ -3,19 +3,29 @@
 use crate::frame::Frame;
 use crate::scan::numbers_of;
 use crate::starts::Starts;
-use crate::test_forms::keep_test;
+use crate::test_forms::{TestForm, keep_test};
 use crate::turning::{Turning, turn_all};
 use crate::ways::{Options, are_seen};
+use crate::weights::{Digits, keep_parts, take_all};
 use core_code::tree::{Core, Statement, Term};
 use std::alloc::{AllocError, Global};
 
-/// The kernel's frame, the numbers of its text, the numbers by which walks saw variables step, and whether loops may end by doubling.
+/// Which ways of a loop to end are told: those of its tests by one variable's steps, or those by two variables together.
+#[derive(Clone, Copy, PartialEq, Eq)]
+enum Wanted {
+    Plain,
+    Weighted,
+}
+
+/// The kernel's frame, the numbers of its text, the numbers by which walks saw variables step, whether loops may end by doubling, and which
+/// ways to end are told.
 #[derive(Drop)]
 struct Given<'a> {
     frame: Frame,
     numbers: Vec<u64>,
     strides: &'a [(u32, i64)],
     may_double: bool,
+    wanted: Wanted,
 }
 
 /// The number, the test and the statements of a loop, as they stand in the kernel.
@@ -144,8 +154,56 @@ fn keep_exits(
     Ok(())
 }
 
-/// The ways in which a loop may end.
-fn options_of(
+/// The forms that the tests tell which stand in the loop's body itself and leave the loop.
+fn forms_of_exits(
+    alloc: Global,
+    given: &Given,
+    text: LoopText,
+    forms: &mut Vec<TestForm>,
+) -> Result<(), AllocError> {
+    for statement in text.body {
+        if let Statement::If {
+            test,
+            taken,
+            skipped,
+            ..
+        } = statement
+        {
+            if leaves(text.number, taken.as_slice()) {
+                keep_parts(alloc, &given.frame, test, false, forms)?;
+            }
+            if leaves(text.number, skipped.as_slice()) {
+                keep_parts(alloc, &given.frame, test, true, forms)?;
+            }
+        }
+    }
+    Ok(())
+}
+
+/// The ways in which a loop may end by two variables together.
+fn weighted_of(
+    alloc: Global,
+    given: &Given,
+    walk: &Walk,
+    text: LoopText,
+) -> Result<Options, AllocError> {
+    let mut digits = Digits::new(alloc);
+    take_all(alloc, &given.frame, text.body, &mut digits)?;
+    take_all(alloc, &given.frame, text.update, &mut digits)?;
+    let mut forms = Vec::new(alloc);
+    keep_parts(alloc, &given.frame, text.test, true, &mut forms)?;
+    forms_of_exits(alloc, given, text, &mut forms)?;
+    let mut options = Options::new(alloc, text.number);
+    for form in digits.weighted(alloc, forms.as_slice())? {
+        if are_seen(&given.frame, walk.seen.as_slice(), &form) {
+            options.keep_down(form)?;
+        }
+    }
+    Ok(options)
+}
+
+/// The ways in which a loop may end by its tests and the steps of one variable each.
+fn plain_of(
     alloc: Global,
     given: &Given,
     walk: &Walk,
@@ -165,7 +223,10 @@ fn enter_loop(
     text: LoopText,
     walk: &mut Walk,
 ) -> Result<(), AllocError> {
-    let options = options_of(alloc, given, walk, text)?;
+    let options = match given.wanted {
+        Wanted::Plain => plain_of(alloc, given, walk, text)?,
+        Wanted::Weighted => weighted_of(alloc, given, walk, text)?,
+    };
     walk.found.push(options)?;
     Ok(())
 }
@@ -223,6 +284,17 @@ fn visit_all(
     Ok(())
 }
 
+/// The options of each loop of the kernel, in the order of their numbers.
+fn all_options(alloc: Global, core: &Core, given: &Given) -> Result<Vec<Options>, AllocError> {
+    let mut walk = Walk {
+        seen: Vec::new(alloc),
+        starts: Starts::new(alloc),
+        found: Vec::new(alloc),
+    };
+    visit_all(alloc, given, core.body.as_slice(), &mut walk)?;
+    Ok(walk.found)
+}
+
 /// The options of each loop of the kernel, in the order of their numbers, that its tests and its steps tell; for a wide walk, in which
 /// loops may double and forms have products, or a narrow one. `strides` has steps of slots that are known beside those of the text.
 pub fn guess_rankings(
@@ -236,12 +308,19 @@ pub fn guess_rankings(
         numbers: numbers_of(alloc, core)?,
         strides,
         may_double: is_wide,
+        wanted: Wanted::Plain,
     };
-    let mut walk = Walk {
-        seen: Vec::new(alloc),
-        starts: Starts::new(alloc),
-        found: Vec::new(alloc),
+    all_options(alloc, core, &given)
+}
+
+/// The options of each loop of the kernel, in the order of their numbers, that rank it by two of its variables together, for a wide walk.
+pub fn guess_weighted(alloc: Global, core: &Core) -> Result<Vec<Options>, AllocError> {
+    let given = Given {
+        frame: Frame::of(alloc, core, true)?,
+        numbers: Vec::new(alloc),
+        strides: &[],
+        may_double: false,
+        wanted: Wanted::Weighted,
     };
-    visit_all(alloc, &given, core.body.as_slice(), &mut walk)?;
-    Ok(walk.found)
+    all_options(alloc, core, &given)
 }

@@ -121,7 +121,7 @@ impl Options {
     }
 
     /// A form with terms, which falls by 1.
-    fn keep_down(&mut self, form: Form) -> Result<(), AllocError> {
+    pub fn keep_down(&mut self, form: Form) -> Result<(), AllocError> {
         if form.terms().is_empty() {
             return Ok(());
         }

@@ -19,7 +19,7 @@ number w = w.value
 
 -- the launch itself
 abbrev pub meant : TypedLaunch → meaning.Launch
-meant l = record { groups = l.groups; arguments = l.arguments; buffers = map (map number) l.buffers; fill = l.fill }
+meant l = record { groups = l.groups; arguments = l.arguments; buffers = map (map number) l.buffers; fill = l.fill; machine = meaning.silent }
 
 abbrev pub counts : (x y z : ℕ) → Three ℕ
 counts x y z = record { x = x; y = y; z = z }

@@ -3,7 +3,7 @@ use Rattle.std.specs.Prelude.{◌≡◌, ◌≤◌, ◌<◌, ◌^◌, ℕ, ℤ, 
 use Rattle.std.specs.Fmt.{decimal, signed_decimal}
 use Rattle.semantics.specs.Core.{Site}
 use Rattle.semantics.specs.Word.{Kind, Word, in_kind}
-use Rattle.semantics.specs.Launch.{Three, IsCount, IsArgument, Launch}
+use Rattle.semantics.specs.Launch.{Three, IsCount, IsArgument, Launch, silent}
 use Rattle.texts.specs.Lines.{line_feed}
 use Rattle.texts.specs.Surface.{Parameter, Buffer, Value}
 use Rattle.texts.specs.LaunchText.{argument_text, fill_text}
@@ -58,6 +58,7 @@ pub record AreLaunchLines (ps : List Parameter) (text : List ℕ) (l : Launch) :
   pub buffers : AreBufferLines ps buffer_lines l.buffers
   pub few_words : sum_by length l.buffers ≤ 1048576
   pub fill : l.fill < 2 ^ 31
+  pub machine : l.machine ≡ silent
 
 -- in at most 4,194,304 bytes
 pub record IsLaunchText (ps : List Parameter) (text : List ℕ) (l : Launch) : Type 0 where

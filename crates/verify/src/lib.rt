@@ -7,4 +7,4 @@
 mod verifying;
 
 pub use proof_search::{Effort, Progress, Unwatched, VerifyError, Watcher};
-pub use verifying::{Verified, verify, verify_watched, verify_wide};
+pub use verifying::{Verified, verify, verify_watched};

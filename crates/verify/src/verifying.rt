@@ -3,7 +3,7 @@
 ghost use Rattle.std.specs.Prelude.{◌≡◌, ℕ, List, Bool, true, false, IfOk, IfErr};
 ghost use Rattle.certificate.specs.Certificates.{certificate as certificate_seen};
 ghost use Rattle.cert_check.specs.Refusing.{RefusesBy};
-ghost use Rattle.proof_search.specs.Searching.{AreSearched, IsCount, TellsOf, text_by, text_found};
+ghost use Rattle.proof_search.specs.Searching.{AreSearched, IsCount, TellsOf, text_by};
 ghost use Rattle.texts.specs.Scope.{Bits32};
 ghost use Rattle.reading.specs.Kernels as kernels;
 ghost use Rattle.reading.specs.Kernels.{text_for};
@@ -103,8 +103,9 @@ fn verify_narrowly<R: Threads + Wait + Sync, W: Watcher>(
     }
 }
 
-/// A kernel that is proved as by `verify`, or as by `verify_wide`, with so much effort. Where the check does not take what the wide walk
-/// found, the answer is what the narrow walk comes to, but where the budget alone is short. Whoever watches is told how far the search is.
+/// A kernel that is proved as by `verify`, or also under conditions of version 2, with so much effort. Where the check does not take what
+/// the wide walk found, the answer is what the narrow walk comes to, but where the budget alone is short. Whoever watches is told how far the
+/// search is.
 pub fn verify_watched<R: Threads + Wait + Sync, W: Watcher>(
     rt: &R,
     alloc: Global,
@@ -152,27 +153,6 @@ pub fn verify<R: Threads + Wait + Sync>(
         workers,
         is_wide: false,
         may_widen: false,
-    };
-    verify_watched(rt, alloc, narrow(kernel), conditions, effort, &Unwatched)
-}
-
-/// As `verify`, also under conditions of version 2, with a certificate that is wide where one that is not shows too little: it is found by
-/// `find_wide`, and checked as by `check_wide`.
-pub fn verify_wide<R: Threads + Wait + Sync>(
-    rt: &R,
-    alloc: Global,
-    kernel: &[u8],
-    conditions: &[u8],
-    workers: u32,
-) -> Result<Verified, VerifyError>
-    ensures verified { IfOk result (λ v. IsVerifiedBy true (text_for Bits32 kernel.now) conditions.now (text_found (certificate_seen v.certificate)) v.accepted) }
-    ensures workers { IfOk result (λ _. IsCount workers) }
-    ensures told { IfErr result (λ e. TellsOf true e workers (text_for Bits32 kernel.now) conditions.now) }
-{
-    let effort = Effort {
-        workers,
-        is_wide: true,
-        may_widen: true,
     };
     verify_watched(rt, alloc, narrow(kernel), conditions, effort, &Unwatched)
 }

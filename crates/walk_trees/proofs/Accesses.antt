@@ -12,7 +12,7 @@ use Rattle.facts.specs.Symbols.{Length, Fact, constant, minus}
 use Rattle.facts.proofs.Worlds.{View, setup, length_at}
 use Rattle.walk_trees.specs.Trees.{OfIndex, Tree, Touch, accesses}
 use Rattle.walk_trees.specs.Walks.{State, Onward, claimed_once, at_site, claim_form}
-use Rattle.walk_trees.specs.Terms.{target_at, length_in, length_form, kind_in, array_kind, access, element, load}
+use Rattle.walk_trees.specs.Terms.{target_at, length_in, length_form, in_length, kind_in, array_kind, access, element, load}
 use Rattle.walk_trees.proofs.Holding.{fits_itself}
 use Rattle.walk_trees.proofs.Shares.{keeping}
 use Rattle.walk_trees.proofs.Standing.{walks, Seen, Stands, Comes, Goes, gives, asks, way_then, over_claim, over_access, past_claim, past_access, at_once, comes_from, onward, Owns, owns}
@@ -33,6 +33,29 @@ module _ {E : Type 0} (c : View E) (launch : List Fact) where
 
   length-means : (news : List ℤ) (a : Array) → IsForm c news (length_form (walks c) a) (pos (extent (setup c) a))
   length-means news a = length_in-means news a.space a.number
+
+  -- an index that lies in so many elements, and what goes on behind it
+  pub record Lies (facts : List Fact) (n : ℕ) (tree : Tree E) (go : State E → Tree E) (news : List ℤ) (variables : Owns) (length : ℕ) (x : ℤ) : Type 0 where
+    pub index : ℕ
+    pub same : x ≡ pos index
+    pub below : index < length
+    pub comes : Comes c launch facts n tree (λ (u : Unit {0}) st. go st) news variables (λ more u. Unit {0})
+
+  pub lies : {facts : List Fact} {n : ℕ} {news : List ℤ} (length : ℕ) (room f : Fact) (x : ℤ) (st : State E) (go : State E → Tree E) → IsForm c news room (pos length) → IsForm c news f x → Stands c launch facts n (in_length (walks c) room f st go) news (keeping st) → Lies facts n (in_length (walks c) room f st go) go news (owns st) length x
+  lies {facts = facts} {n = n} {news = news} length room f x st go mr m s =
+      let long : Fact = minus room (constant (pos 1)) in
+      let high : Fact = minus long f in
+      let s1 = past_claim c launch s in
+      let s2 = past_claim c launch s1 in
+      let low : pos 0 ≤ℤ x = told_by c launch OfIndex f x st (λ st'. claim_form (walks c) OfIndex true high st' go) s m.means in
+      let is = form-minus c room (constant (pos 1)) (pos length) (pos 1) (pos length -ℤ pos 1) mr (form_constant c news (pos 1)) (omega (arith, ints)) in
+      let left : pos 0 ≤ℤ ((pos length -ℤ pos 1) -ℤ x) = told_by c launch OfIndex high ((pos length -ℤ pos 1) -ℤ x) (claimed_once st) go s1 (form-minus c long f (pos length -ℤ pos 1) x ((pos length -ℤ pos 1) -ℤ x) is m (omega (arith, ints))).means in
+      by x low left (comes_from c launch (way_then c launch (over_claim c launch) (over_claim c launch))
+      (at_once c launch (λ (u : Unit {0}) st'. go st') (λ more u. Unit {0}) tt (claimed_once (claimed_once st)) tt s2))
+    where
+      by : (x : ℤ) → pos 0 ≤ℤ x → pos 0 ≤ℤ ((pos length -ℤ pos 1) -ℤ x) → Comes c launch facts n (in_length (walks c) room f st go) (λ (u : Unit {0}) st'. go st') news (owns st) (λ more u. Unit {0}) → Lies facts n (in_length (walks c) room f st go) go news (owns st) length x
+      by (pos k) low left p = record { index = k; same = refl; below = omega (arith, ints); comes = p }
+      by (negsuc k) low left p = absurd (omega (arith, ints))
 
   -- an access, and what goes on behind it
   pub record Inside (facts : List Fact) (n : ℕ) (tree : Tree E) (go : State E → Tree E) (news : List ℤ) (variables : Owns) (stored : Bool) (a : Array) (x : ℤ) : Type 0 where

@@ -310,7 +310,7 @@ module _ {E : Type 0} (c : View E) (launch : List Fact) where
       by true e = form-is c z (omega (arith, ints, le_test low z a, le_test z high b, (Decides-int_eq low high).0 e)) (form_constant c news low)
       by false e = m
 
-  known_sound : {news : List ℤ} (f : Fact) (z : ℤ) (st : State E) → IsHeld c news st.held → IsForm c news f z → IsForm c news (known_form (walks c) st f) z
+  pub known_sound : {news : List ℤ} (f : Fact) (z : ℤ) (st : State E) → IsHeld c news st.held → IsForm c news f z → IsForm c news (known_form (walks c) st f) z
   known_sound {news = news} f z st k m =
       let b = bounds_of (walks c) st f in
       let p = and_parts (is_above b.low z) (is_below b.high z) (c.lawful.bounds (element_of (walks c) st f) z (form-has c news st.held f z k m.means)) in

@@ -64,13 +64,13 @@ or-right true m n e = let l = le_or_r m n in omega (arith, ints, l)
 or-right false m n e = cc
 
 module _ {E : Type 0} (c : View E) (launch : List Fact) where
-  natural : {facts : List Fact} {n : ℕ} {tree : Tree E} {news : List ℤ} (k : Kind) (f : Fact) (x : ℤ) (st : State E) → in_kind k x ≡ true → IsForm c news f x → Stands c launch facts n tree news (keeping st) → is_natural (walks c) st k f ≡ true → pos 0 ≤ℤ x
+  pub natural : {facts : List Fact} {n : ℕ} {tree : Tree E} {news : List ℤ} (k : Kind) (f : Fact) (x : ℤ) (st : State E) → in_kind k x ≡ true → IsForm c news f x → Stands c launch facts n tree news (keeping st) → is_natural (walks c) st k f ≡ true → pos 0 ≤ℤ x
   natural Uint f x st h m s e = (in_kind-ends Uint x h).0
   natural {news = news} Size f x st h m s e = held_settles c news st.held f x s.fit m.means e
   natural {news = news} Int f x st h m s e = held_settles c news st.held f x s.fit m.means e
 
   -- the bits from a place on
-  bits_from_sound : (b : ℕ) (k : Kind) {facts : List Fact} {n : ℕ} {news : List ℤ} (f : Fact) (x : ℤ) (st : State E) (go : Fact → State E → Tree E) → in_kind k x ≡ true → IsForm c news f x → Stands c launch facts n (bits_from (walks c) k f b st go) news (keeping st) →
+  pub bits_from_sound : (b : ℕ) (k : Kind) {facts : List Fact} {n : ℕ} {news : List ℤ} (f : Fact) (x : ℤ) (st : State E) (go : Fact → State E → Tree E) → in_kind k x ≡ true → IsForm c news f x → Stands c launch facts n (bits_from (walks c) k f b st go) news (keeping st) →
       Comes c launch facts n (bits_from (walks c) k f b st go) go news (owns st) (λ more h. IsForm c more h (int_div_euclid x (pos (2 ^ b))))
   bits_from_sound zero k f x st go h m s = at_once c launch go (λ more h. IsForm c more h (int_div_euclid x (pos 1))) f st (form-is c (int_div_euclid x (pos 1)) (sym (floor-one x)) m) s
   bits_from_sound (suc b) k f x st go h m s =
@@ -115,7 +115,7 @@ module _ {E : Type 0} (c : View E) (launch : List Fact) where
   both-below : (k : Kind) (x y : ℤ) → in_kind k y ≡ true → pos 0 ≤ℤ y → (pos 0 ≤ℤ both k x y) × (both k x y ≤ℤ y)
   both-below k x y h l = subst (λ z. (pos 0 ≤ℤ z) × (z ≤ℤ y)) (met-turned k y x) (met-below k y x h l)
 
-  any_has : (k : Kind) (z : ℤ) → in_kind k z ≡ true → c.domain.has (any_of c.domain k) z ≡ true
+  pub any_has : (k : Kind) (z : ℤ) → in_kind k z ≡ true → c.domain.has (any_of c.domain k) z ≡ true
   any_has k z h = let ends = in_kind-ends k z h in between-has c.domain c.lawful (least k) (greatest k) z ends.0 ends.1
 
   natural_has : (b : Bool) (k : Kind) (x y : ℤ) → (b ≡ true → pos 0 ≤ℤ both k x y) → c.domain.has (cond b (between c.domain (pos 0) (greatest k)) (any_of c.domain k)) (both k x y) ≡ true

@@ -1,5 +1,5 @@
 -- The walk of a term as an item begins: what it evaluates to is found in the tree.
-use Rattle.std.proofs.Common.{◌≡◌, suc, true, List, [], ◌∷◌, Some, arith, refl, sym, subst, inl, inr}
+use Rattle.std.proofs.Common.{◌≡◌, ℕ, suc, true, List, [], ◌∷◌, Some, arith, refl, sym, subst, inl, inr}
 use Rattle.std.specs.List.{All, Contains}
 use Rattle.semantics.specs.Word.{Word}
 use Rattle.semantics.specs.Core.{Term}
@@ -61,5 +61,5 @@ module _ {E : Type 0} (c : View E) (laws : DividesLawfully c.domain) (e : Term) 
     inside = s.inside;
   })
 
-  pub founded : (answers : List Word) → HonestTerm (setup c) c.conditions.contents c.item e (opening (setup c) c.item).variables answers → All IsShownWithProducts (claims launch facts 0 (tree_of (walks c) c.kernel e)) → IsFoundIn (tree_of (walks c) c.kernel e) (setup c) (evaluate (setup c) c.item e (opening (setup c) c.item).variables answers)
-  founded answers honest shown = found ((term_sound c launch laws e covered).value facts 0 [] (beginning c.kernel) with_value (opening (setup c) c.item).variables answers honest (opening_forms c) (record { fit = held_opening c; counted = refl; shared = tt; launched = launch_known c []; known = item_known c []; shown = shown }))
+  pub founded : (now : List ℕ) (answers : List Word) → HonestTerm (setup c) c.conditions.contents c.item now e (opening (setup c) c.item).variables answers → All IsShownWithProducts (claims launch facts 0 (tree_of (walks c) c.kernel e)) → IsFoundIn (tree_of (walks c) c.kernel e) (setup c) (evaluate (setup c) c.item now e (opening (setup c) c.item).variables answers)
+  founded now answers honest shown = found ((term_sound c launch laws now e covered).value facts 0 [] (beginning c.kernel) with_value (opening (setup c) c.item).variables answers honest (opening_forms c) (record { fit = held_opening c; counted = refl; shared = tt; launched = launch_known c []; known = item_known c []; shown = shown }))

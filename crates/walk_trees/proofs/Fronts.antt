@@ -7,7 +7,7 @@ use Rattle.semantics.specs.Core.{Site, Array, Term, Set, If, Statements}
 use Rattle.semantics.specs.Memory.{cell, element_kind}
 use Rattle.semantics.specs.Contents.{StoresKept, HoldsOf, HonestTerm}
 use Rattle.semantics.specs.Evaluation.{Outcome, Gives, Needs, evaluate, At}
-use Rattle.semantics.specs.Item.{Item, Entry, Stopped, status_of, finished}
+use Rattle.semantics.specs.Item.{Item, Entry, Stopped, status_of, finished, trail}
 use Rattle.semantics.specs.Ask as ask
 use Rattle.semantics.specs.Ask.{Ask, on_value, loads, stores, act}
 use Rattle.semantics.specs.Solo as solo
@@ -100,14 +100,14 @@ module _ {E : Type 0} (c : View E) (launch : List Fact) (laws : DividesLawfully 
       (subst (λ (x : Word). in_kind x.kind x.value ≡ true) q right, subst (λ (x : Word). Comes c launch facts n tree go news variables (P x)) q comes)
   known_comes v rest (asks a k site is seen) e = absurd (needs-not a k site v rest (sym is ∙ e))
 
-  pub value_stood : (e : Term) → covers_term c.spaces e ≡ true → {st : State E} {vars : List Word} {ranks : ℕ → ℤ} (go : Onward E) (answers : List Word) (v : Word) (rest : List Word) → Stood c launch all last ((walk (walks c) e).value st go) st vars ranks → evaluate (setup c) c.item e vars answers ≡ Gives v rest → HonestTerm (setup c) c.conditions.contents c.item e vars answers → (x : Value) × ((st' : State E) × Stood c launch all last (go x st') st' vars ranks)
-  value_stood e h {st = st} {vars = vars} {ranks = ranks} go answers v rest s is honest =
-      let p = (known_comes v rest ((term_sound c launch laws e h).value s.facts s.count s.news st go vars answers honest s.forms s.stands) is).1 in
+  pub value_stood : (now : List ℕ) (e : Term) → covers_term c.spaces e ≡ true → {st : State E} {vars : List Word} {ranks : ℕ → ℤ} (go : Onward E) (answers : List Word) (v : Word) (rest : List Word) → Stood c launch all last ((walk (walks c) e).value st go) st vars ranks → evaluate (setup c) c.item now e vars answers ≡ Gives v rest → HonestTerm (setup c) c.conditions.contents c.item now e vars answers → (x : Value) × ((st' : State E) × Stood c launch all last (go x st') st' vars ranks)
+  value_stood now e h {st = st} {vars = vars} {ranks = ranks} go answers v rest s is honest =
+      let p = (known_comes v rest ((term_sound c launch laws now e h).value s.facts s.count s.news st go vars answers honest s.forms s.stands) is).1 in
       (p.arrived, (p.state, came s p))
 
-  pub set_stood : (e : Term) → covers_term c.spaces e ≡ true → {st : State E} {vars : List Word} {ranks : ℕ → ℤ} (slot : ℕ) (go : State E → Tree E) (answers : List Word) (v : Word) (rest : List Word) → Stood c launch all last ((walk (walks c) e).value st (λ x st'. go (assigned slot x st'))) st vars ranks → evaluate (setup c) c.item e vars answers ≡ Gives v rest → HonestTerm (setup c) c.conditions.contents c.item e vars answers → (st' : State E) × Stood c launch all last (go st') st' (slice_set vars slot v) ranks
-  set_stood e h {st = st} {vars = vars} {ranks = ranks} slot go answers v rest s is honest =
-      let k = known_comes v rest ((term_sound c launch laws e h).value s.facts s.count s.news st (λ x st'. go (assigned slot x st')) vars answers honest s.forms s.stands) is in
+  pub set_stood : (now : List ℕ) (e : Term) → covers_term c.spaces e ≡ true → {st : State E} {vars : List Word} {ranks : ℕ → ℤ} (slot : ℕ) (go : State E → Tree E) (answers : List Word) (v : Word) (rest : List Word) → Stood c launch all last ((walk (walks c) e).value st (λ x st'. go (assigned slot x st'))) st vars ranks → evaluate (setup c) c.item now e vars answers ≡ Gives v rest → HonestTerm (setup c) c.conditions.contents c.item now e vars answers → (st' : State E) × Stood c launch all last (go st') st' (slice_set vars slot v) ranks
+  set_stood now e h {st = st} {vars = vars} {ranks = ranks} slot go answers v rest s is honest =
+      let k = known_comes v rest ((term_sound c launch laws now e h).value s.facts s.count s.news st (λ x st'. go (assigned slot x st')) vars answers honest s.forms s.stands) is in
       let p = k.1 in
       let t = forms_same c (ap (λ o. o.variables) p.same) (forms_kept c p.way.kept s.forms) in (
         assigned slot p.arrived p.state,
@@ -127,9 +127,9 @@ module _ {E : Type 0} (c : View E) (launch : List Fact) (laws : DividesLawfully 
         },
       )
 
-  pub test_stood : (e : Term) → covers_term c.spaces e ≡ true → {st : State E} {vars : List Word} {ranks : ℕ → ℤ} (go : Outcomes E) (answers : List Word) (v : Word) (rest : List Word) → Stood c launch all last ((walk (walks c) e).test st go) st vars ranks → evaluate (setup c) c.item e vars answers ≡ Gives v rest → HonestTerm (setup c) c.conditions.contents c.item e vars answers → (st' : State E) × Stood c launch all last (go (not (is_zero v.value)) st') st' vars ranks
-  test_stood e h {st = st} {vars = vars} {ranks = ranks} go answers v rest s is honest =
-      let p = (known_comes v rest ((term_sound c launch laws e h).test s.facts s.count s.news st go vars answers honest s.forms s.stands) is).1 in
+  pub test_stood : (now : List ℕ) (e : Term) → covers_term c.spaces e ≡ true → {st : State E} {vars : List Word} {ranks : ℕ → ℤ} (go : Outcomes E) (answers : List Word) (v : Word) (rest : List Word) → Stood c launch all last ((walk (walks c) e).test st go) st vars ranks → evaluate (setup c) c.item now e vars answers ≡ Gives v rest → HonestTerm (setup c) c.conditions.contents c.item now e vars answers → (st' : State E) × Stood c launch all last (go (not (is_zero v.value)) st') st' vars ranks
+  test_stood now e h {st = st} {vars = vars} {ranks = ranks} go answers v rest s is honest =
+      let p = (known_comes v rest ((term_sound c launch laws now e h).test s.facts s.count s.news st go vars answers honest s.forms s.stands) is).1 in
       (p.state, subst (λ b. Stood c launch all last (go b p.state) p.state vars ranks) p.right (came s p))
 
   access_stood : {st : State E} {vars : List Word} {ranks : ℕ → ℤ} (a : Array) (site : Site) (f : Fact) (go : State E → Tree E) → Stood c launch all last (access (walks c) true a site f st go) st vars ranks → (st' : State E) × Stood c launch all last (go st') st' vars ranks
@@ -175,12 +175,12 @@ module _ {E : Type 0} (c : View E) (launch : List Fact) (laws : DividesLawfully 
   }
 
   -- the statement in front
-  pub set_front : (e : Term) → covers_term c.spaces e ≡ true → {st : State E} {vars : List Word} {ranks : ℕ → ℤ} (p : Spot) (go : Onward E) (it : Item) (n slot turns : ℕ) (rest : List Entry) → it.variables ≡ vars → HonestTerm (setup c) c.conditions.contents c.item e it.variables it.answers → Stood c launch all last ((walk (walks c) e).value (stand p st) go) st vars ranks → IsFine c all it (act (setup c) c.item it (Set n slot e) turns rest)
+  pub set_front : (e : Term) → covers_term c.spaces e ≡ true → {st : State E} {vars : List Word} {ranks : ℕ → ℤ} (p : Spot) (go : Onward E) (it : Item) (n slot turns : ℕ) (rest : List Entry) → it.variables ≡ vars → HonestTerm (setup c) c.conditions.contents c.item (trail it.left) e it.variables it.answers → Stood c launch all last ((walk (walks c) e).value (stand p st) go) st vars ranks → IsFine c all it (act (setup c) c.item it (Set n slot e) turns rest)
   set_front e h {st = st} {vars = vars} {ranks = ranks} p go it n slot turns rest same honest s =
       let forms = subst (λ vs. AreForms c s.news vs st.variables) (sym same) s.forms in
-      fine_value it (λ v later. ask.Goes (finished it rest (slice_set it.variables slot v))) s.touched ((term_sound c launch laws e h).value s.facts s.count s.news (stand p st) go it.variables it.answers honest forms s.stands) (λ w later is i q. fine_done it rest (slice_set it.variables slot w))
+      fine_value it (λ v later. ask.Goes (finished it rest (slice_set it.variables slot v))) s.touched ((term_sound c launch laws (trail it.left) e h).value s.facts s.count s.news (stand p st) go it.variables it.answers honest forms s.stands) (λ w later is i q. fine_done it rest (slice_set it.variables slot w))
 
-  pub if_front : (e : Term) → covers_term c.spaces e ≡ true → {st : State E} {vars : List Word} {ranks : ℕ → ℤ} (p : Spot) (go : Outcomes E) (it : Item) (n : ℕ) (taken skipped : Statements) (turns : ℕ) (rest : List Entry) → it.variables ≡ vars → HonestTerm (setup c) c.conditions.contents c.item e it.variables it.answers → Stood c launch all last ((walk (walks c) e).test (stand p st) go) st vars ranks → IsFine c all it (act (setup c) c.item it (If n e taken skipped) turns rest)
+  pub if_front : (e : Term) → covers_term c.spaces e ≡ true → {st : State E} {vars : List Word} {ranks : ℕ → ℤ} (p : Spot) (go : Outcomes E) (it : Item) (n : ℕ) (taken skipped : Statements) (turns : ℕ) (rest : List Entry) → it.variables ≡ vars → HonestTerm (setup c) c.conditions.contents c.item (trail it.left) e it.variables it.answers → Stood c launch all last ((walk (walks c) e).test (stand p st) go) st vars ranks → IsFine c all it (act (setup c) c.item it (If n e taken skipped) turns rest)
   if_front e h {st = st} {vars = vars} {ranks = ranks} p go it n taken skipped turns rest same honest s =
       let forms = subst (λ vs. AreForms c s.news vs st.variables) (sym same) s.forms in
-      fine_value it _ s.touched ((term_sound c launch laws e h).test s.facts s.count s.news (stand p st) go it.variables it.answers honest forms s.stands) (λ w later is i q. fine_done it _ it.variables)
+      fine_value it _ s.touched ((term_sound c launch laws (trail it.left) e h).test s.facts s.count s.news (stand p st) go it.variables it.answers honest forms s.stands) (λ w later is i q. fine_done it _ it.variables)

@@ -17,6 +17,7 @@ pub mod BitNumbers
 pub mod BitTests
 pub mod BitSound
 pub mod Arithmetic
+pub mod ShiftSound
 pub mod Identities
 pub mod Accesses
 pub mod TermSound

@@ -12,7 +12,7 @@ use Rattle.walk_trees.proofs.OwnForms.{IsOwn, own-sum, own-multiple, own-minus}
 use Rattle.walk_trees.proofs.OwnQuotients.{IsOwnTree, HasOwn, GoesOn, invents, quotients, leaves_by, tells}
 
 module _ {E : Type 0} (s : Setting E) where
-  from_bits : (b : ℕ) (k : Kind) (x : Fact) (st : State E) (go : Fact → State E → Tree E) → IsOwn x → HasOwn st → GoesOn go → IsOwnTree (bits_from s k x b st go)
+  pub from_bits : (b : ℕ) (k : Kind) (x : Fact) (st : State E) (go : Fact → State E → Tree E) → IsOwn x → HasOwn st → GoesOn go → IsOwnTree (bits_from s k x b st go)
   from_bits zero k x st go i h g = g x st i h
   from_bits (suc b) k x st go i h g = quotients s k x (pos (2 ^ suc b)) st (λ q r st'. go q st') i h (λ q r st' j l h'. g q st' j h')
 

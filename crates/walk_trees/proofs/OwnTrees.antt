@@ -3,8 +3,8 @@ use Rattle.std.proofs.Common.{◌≡◌, ℕ, zero, suc, ◌+◌, ◌^◌, ◌%�
 use Rattle.std.proofs.lemmas.Bool.{and_from}
 use Rattle.std.specs.Prelude.{ℤ, pos, negsuc, ◌+ℤ◌, slice_set}
 use Rattle.std.specs.Ordering.{int_eq}
-use Rattle.semantics.specs.Word.{Kind, Int, Uint, Size, Operator, Add, Subtract, Multiply, Divide, Remainder, BitAnd, BitOr, BitXor, UnaryOperator, Negate, Complement, ShiftLeft, ShiftRight, Relation, Less, AtMost, More, AtLeast, Equal, Unequal}
-use Rattle.semantics.specs.Core.{Array, Site, Function, GlobalId, LocalId, GroupId, GlobalSize, LocalSize, NumGroups, Term, Literal, Variable, Id, Load, Unary, Binary, Convert, Compare, Not, And, Or, Select, Minimum, Maximum}
+use Rattle.semantics.specs.Word.{Kind, Int, Uint, Size, Operator, Add, Subtract, Multiply, Divide, Remainder, BitAnd, BitOr, BitXor, UnaryOperator, Negate, Complement, ShiftLeft, ShiftRight, Direction, Leftward, Rightward, Relation, Less, AtMost, More, AtLeast, Equal, Unequal}
+use Rattle.semantics.specs.Core.{Array, Site, Function, GlobalId, LocalId, GroupId, GlobalSize, LocalSize, NumGroups, Term, Literal, Variable, Id, Load, Unary, Binary, Convert, Compare, Not, And, Or, Select, Minimum, Maximum, Shift, Within, Opaque}
 use Rattle.semantics.specs.Setup.{along}
 use Rattle.linear.specs.Exact.{Terms, sum, multiple}
 use Rattle.linear.specs.Products.{factors, product as form_product}
@@ -16,19 +16,20 @@ use Rattle.walk_trees.specs.Values.{Value, value}
 use Rattle.walk_trees.specs.Walks.{Setting, State, Onward, claimed_once, counted, bounds_of, newest, know_all, claim_form, unknown, any_of, is_kept, kept_or_new, ranged, brought_from, both_brought, at_site, fork, fork_unless, is_left_out, is_either_left_out, are_both_left_out, unless_dead, know_test, know_two, one_number, known_form}
 use Rattle.walk_trees.specs.SharedQuotients.{quotient_or_new, left_or_new}
 use Rattle.walk_trees.specs.Operators.{small_product, product_in, product, claim_divisor, claim_quotient, is_exact, asks_dividend, claim_dividend, divided, remaining, is_mask, are_from_zero, masked_by, masked, operate, known_operands, binary, complement, shifted, unary}
-use Rattle.walk_trees.specs.Bits.{meet, join, differ}
+use Rattle.walk_trees.specs.Bits.{is_natural, tell_where, meet, join, differ}
+use Rattle.walk_trees.specs.Shifts.{count_in, left_element, right_any, by_term, left_by_number, by_number, shift_by}
 use Rattle.walk_trees.specs.Joined.{are_joined, excess, know_product, invent_excesses, apart_facts, told_apart, picked_element, picked_facts, pick_joined}
 use Rattle.walk_trees.specs.Tests.{Outcomes, below, split_below, split_apart, split_from_zero, split_sign, split, split_number}
-use Rattle.walk_trees.specs.Terms.{Walks, walk, no_value, truth_value, id_inside, id_outside, id_form, access, array_kind, element, keep_contents, stored, chosen, pick_split, is_joined_pick, pick}
+use Rattle.walk_trees.specs.Terms.{Walks, walk, no_value, truth_value, id_inside, id_outside, id_form, in_length, access, array_kind, element, keep_contents, stored, chosen, pick_split, is_joined_pick, pick}
 use Rattle.walk_trees.specs.Contents.{contents_of}
 use Rattle.walk_trees.specs.Statements.{argument_values, zero_value}
 use Rattle.walk_trees.specs.Seconds.{are_own_factors, is_whole, is_own_symbol, are_own_terms, is_own, are_own}
 use Rattle.walk_trees.proofs.Each.{Each}
 use Rattle.walk_trees.proofs.Products.{product_by}
 use Rattle.walk_trees.proofs.OwnForms.{AreOwnFactors, IsOwnSymbol, IsOwn, AreOwn, own-sum, own-multiple, own-product, own-minus, own-new, own-groups, own-given, own-local, own-group}
-use Rattle.walk_trees.proofs.OwnQuotients.{IsOwnValue, AreOwnValues, HasOwn, IsOwnTree, GoesOn, GoesOnBy, GoesEither, invents, multiplieds, quotients, leaves_by, own-shares, quotients_or_new, lefts_or_new}
+use Rattle.walk_trees.proofs.OwnQuotients.{IsOwnValue, AreOwnValues, HasOwn, IsOwnTree, GoesOn, GoesOnBy, GoesEither, invents, tells, multiplieds, quotients, leaves_by, own-shares, quotients_or_new, lefts_or_new}
 use Rattle.walk_trees.proofs.OwnContents.{IsOwnBound, own-in, knows, claims_on}
-use Rattle.walk_trees.proofs.OwnBits.{own_meet, own_join, own_differ}
+use Rattle.walk_trees.proofs.OwnBits.{own_meet, own_join, own_differ, from_bits}
 
 module _ {E : Type 0} (s : Setting E) where
   unknowns : (k : Kind) (st : State E) (go : Onward E) → HasOwn st → GoesOnBy go → IsOwnTree (unknown s k st go)
@@ -246,6 +247,30 @@ module _ {E : Type 0} (s : Setting E) where
   unaries (ShiftLeft by) k x st go i h g = ranges k (multiple (pos (2 ^ by)) x.form) st go (own-multiple (pos (2 ^ by)) x.form i) h g
   unaries (ShiftRight by) k x st go i h g = shifts x.kind k x.form by st go i h g
 
+  rights_any : (k : Kind) (x : Fact) (st : State E) (go : Fact → State E → Tree E) → IsOwn x → HasOwn st → GoesOn go → IsOwnTree (right_any s k x st go)
+  rights_any k x st go i h g = invents s _ st (λ r st1. tell_where s (is_natural s st k x) (minus x r) st1 (λ st2. go r st2)) h (λ r st1 l h1. tells s (is_natural s st k x) (minus x r) st1 (λ st2. go r st2) (own-minus x r i l) h1 (λ st2 h2. g r st2 l h2))
+
+  by_terms : (d : Direction) (k : Kind) (x : Fact) (st : State E) (go : Fact → State E → Tree E) → IsOwn x → HasOwn st → GoesOn go → IsOwnTree (by_term s d k x st go)
+  by_terms Leftward k x st go i h g = invents s (left_element s k x) st go h g
+  by_terms Rightward k x st go i h g = rights_any k x st go i h g
+
+  lefts_by_number : (k : Kind) (n : ℕ) (x : Fact) (st : State E) (go : Onward E) → IsOwn x → HasOwn st → GoesOnBy go → IsOwnTree (left_by_number s k n x st go)
+  lefts_by_number Int n x st go i h g = unknowns Int st go h g
+  lefts_by_number Uint n x st go i h g = ranges Uint (multiple (pos (2 ^ n)) x) st go (own-multiple (pos (2 ^ n)) x i) h g
+  lefts_by_number Size n x st go i h g = unknowns Size st go h g
+
+  by_numbers : (d : Direction) (k : Kind) (n : ℕ) (x : Fact) (st : State E) (go : Onward E) → IsOwn x → HasOwn st → GoesOnBy go → IsOwnTree (by_number s d k n x st go)
+  by_numbers Leftward k n x st go i h g = lefts_by_number k n x st go i h g
+  by_numbers Rightward k n x st go i h g = from_bits s n k x st (λ q st'. go (value k q) st') i h (λ q st' l h'. g (value k q) st' l h')
+
+  shifts_by : (o : Option ℕ) (d : Direction) (k : Kind) (x : Fact) (st : State E) (go : Onward E) → IsOwn x → HasOwn st → GoesOnBy go → IsOwnTree (shift_by s o d k x st go)
+  shifts_by None d k x st go i h g = by_terms d k x st (λ r st'. go (value k r) st') i h (λ r st' l h'. g (value k r) st' l h')
+  shifts_by (Some n) d k x st go i h g = by_numbers d k n x st go i h g
+
+  lengths_on : (n i : Fact) (st : State E) (go : State E → Tree E) → HasOwn st → ((c : State E) → HasOwn c → IsOwnTree (go c)) → IsOwnTree (in_length s n i st go)
+  unfolding IsOwnTree
+  lengths_on n i st go h g = g (claimed_once (claimed_once st)) h
+
   own-outside : (f : Function) → IsOwn (id_outside f)
   own-outside GlobalId = tt
   own-outside LocalId = tt
@@ -340,6 +365,10 @@ module _ {E : Type 0} (s : Setting E) where
   own o (Select t a b) = of_value _ (λ st go h g. (own o t).as_test st _ h (λ c st1 h1. selects c _ _ ((own o a).as_value st1 go h1 g) ((own o b).as_value st1 go h1 g)))
   own o (Minimum a b) = of_value _ (λ st go h g. (own o a).as_value st _ h (λ x st1 i h1. (own o b).as_value st1 _ h1 (λ y st2 j h2. picks false y x y x st2 go j i j i h2 g)))
   own o (Maximum a b) = of_value _ (λ st go h g. (own o a).as_value st _ h (λ x st1 i h1. (own o b).as_value st1 _ h1 (λ y st2 j h2. picks true x y y x st2 go i j j i h2 g)))
+  own o (Shift d k a b) = of_value _ (λ st go h g. (own o a).as_value st _ h (λ x st1 i h1. (own o b).as_value st1 _ h1 (λ y st2 j h2.
+      brings_from k x.kind x.form st2 _ i h2 (λ v st3 p h3. shifts_by (count_in (known_form s st3 y.form)) d k v.form st3 go p h3 g))))
+  own o (Within site n e) = of_value _ (λ st go h g. (own o e).as_value st _ h (λ x st1 i h1. lengths_on (constant (pos n)) x.form (at_site site st1) (λ st2. go x st2) h1 (λ st2 h2. g x st2 i h2)))
+  own o (Opaque n at k a b e) = of_value _ (λ st go h g. (own o a).as_value st _ h (λ x st1 i h1. (own o b).as_value st1 _ h1 (λ y st2 j h2. (own o e).as_value st2 _ h2 (λ z st3 l h3. unknowns k st3 go h3 g))))
 
   pub own-set : (vs : List Value) (x : ℕ) (v : Value) → AreOwnValues vs → IsOwnValue v → AreOwnValues (slice_set vs x v)
   own-set [] x v h i = tt

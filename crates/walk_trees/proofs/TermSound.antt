@@ -2,30 +2,34 @@
 use Rattle.std.proofs.Common.{◌≡◌, ℕ, ◌^◌, ◌<◌, ◌&&◌, Bool, true, false, not, cond, List, length, slice_index_or, arith, refl, sym, ap, ap₂, ◌∙◌, subst, lt-ltb}
 use Rattle.std.specs.Prelude.{ℤ, pos, Result}
 use Rattle.std.proofs.lemmas.Bool.{and_parts}
-use Rattle.semantics.specs.Word.{Kind, Int, Uint, Size, Exact, Word, word, zero_word, Fault, in_kind, as_kind, truth, is_zero, smaller, larger, holds, calculate, calculate_unary, convert}
-use Rattle.semantics.specs.Core.{Site, Term, Literal, Variable, Id, Load, Unary, Binary, Convert, Compare, Not, And, Or, Select, Minimum, Maximum}
+use Rattle.semantics.specs.Word.{Kind, Int, Uint, Size, Exact, Word, word, zero_word, Fault, in_kind, as_kind, truth, is_zero, smaller, larger, shift, count_of, holds, calculate, calculate_unary, convert}
+use Rattle.semantics.specs.Core.{Site, Term, Literal, Variable, Id, Load, Unary, Binary, Convert, Compare, Not, And, Or, Select, Minimum, Maximum, Shift, Within, Opaque}
 use Rattle.semantics.specs.Setup.{identity}
 use Rattle.semantics.specs.Contents.{FirstHeld, Behind, HonestTerm}
-use Rattle.semantics.specs.Evaluation.{Outcome, Gives, and_then, settled, decide, operate, compare, evaluate, load as loaded}
+use Rattle.semantics.specs.Evaluation as evaluation
+use Rattle.semantics.specs.Evaluation.{Outcome, Gives, and_then, settled, decide, operand, operate, compare, within, inside, opaque, evaluate, load as loaded}
 use Rattle.semantics.proofs.Words.{as_kind-in_kind}
 use Rattle.facts.specs.Symbols.{Fact, constant}
 use Rattle.facts.proofs.Worlds.{View, setup, Agrees}
 use Rattle.walk_trees.specs.Trees.{Tree}
 use Rattle.walk_trees.specs.Values.{Value, value}
-use Rattle.walk_trees.specs.Walks.{State, Onward, at_site, brought, both_brought}
+use Rattle.walk_trees.specs.Walks.{State, Onward, at_site, unknown, brought, both_brought}
 use Rattle.walk_trees.specs.Operators.{unary, binary}
+use Rattle.walk_trees.specs.Shifts.{shifted}
 use Rattle.walk_trees.specs.Tests.{Outcomes, split, split_number}
-use Rattle.walk_trees.specs.Terms.{Walks, by_value, by_test, truth_value, no_value, variable, id_form, load, chosen, pick, walk}
+use Rattle.walk_trees.specs.Terms.{Walks, by_value, by_test, truth_value, no_value, variable, id_form, in_length, load, chosen, pick, walk}
 use Rattle.walk_trees.specs.Covered.{is_id_kind, is_covered_unary, covers_term}
 use Rattle.walk_trees.proofs.Shares.{keeping}
 use Rattle.walk_trees.proofs.Standing.{walks, Stands, Comes, Goes, gives, at_once, onward, restated, goes_then, goes_further, goes_as, Owns, owns}
-use Rattle.walk_trees.proofs.Ranges.{IsValue, value_kept, form_constant, brought_sound, both_sound, both_taken}
+use Rattle.walk_trees.proofs.Ranges.{IsValue, value_kept, form_constant, unknown_sound, brought_sound, both_sound, both_taken}
 use Rattle.walk_trees.proofs.Splits.{split_sound, split_number_sound}
 use Rattle.walk_trees.proofs.Picks.{picked_goes}
 use Rattle.walk_trees.proofs.QuotientSound.{DividesLawfully}
 use Rattle.walk_trees.proofs.Arithmetic.{Yields, settled_yields, binary_sound, unary_sound}
 use Rattle.walk_trees.proofs.Identities.{id-below, form_id}
-use Rattle.walk_trees.proofs.Accesses.{load_sound}
+use Rattle.walk_trees.proofs.KindEnds.{operand-is}
+use Rattle.walk_trees.proofs.ShiftSound.{shift-in, shifted_sound}
+use Rattle.walk_trees.proofs.Accesses.{within-at, lies, load_sound}
 
 -- each slot's word is of its kind, and the slot's value is of that kind and has its number
 pub record AreForms {E : Type 0} (c : View E) (news : List ℤ) (words : List Word) (values : List Value) : Type 0 where
@@ -76,7 +80,7 @@ truth-test w more b e = by b ∙ ap (λ (x : Word). not (is_zero x.value)) (sym 
     by true = refl
     by false = refl
 
-module _ {E : Type 0} (c : View E) (launch : List Fact) (laws : DividesLawfully c.domain) where
+module _ {E : Type 0} (c : View E) (launch : List Fact) (laws : DividesLawfully c.domain) (now : List ℕ) where
   -- what is promised of a walk as a value, as a test, and of one whose value is a truth value, where the answers to its loads are numbers
   -- that buffers may hold
   abbrev pub IsValueWalk : (State E → Onward E → Tree E) → (List Word → List Word → Outcome) → (honest : List Word → List Word → Type 0) → Type 0
@@ -153,36 +157,36 @@ module _ {E : Type 0} (c : View E) (launch : List Fact) (laws : DividesLawfully 
 
   -- the answers to the loads of a term are numbers that buffers may hold
   abbrev pub Honest : Term → (vars answers : List Word) → Type 0
-  Honest e = HonestTerm (setup c) c.conditions.contents c.item e
+  Honest e = HonestTerm (setup c) c.conditions.contents c.item now e
 
-  pub term_sound : (e : Term) → covers_term c.spaces e ≡ true → IsSound (walk (walks c) e) (evaluate (setup c) c.item e) (Honest e)
+  pub term_sound : (e : Term) → covers_term c.spaces e ≡ true → IsSound (walk (walks c) e) (evaluate (setup c) c.item now e) (Honest e)
   unfolding evaluate
-  term_sound (Literal k z) h = value_sound _ (evaluate (setup c) c.item (Literal k z)) (Honest (Literal k z)) (λ facts n news st go vars answers hq m s.
+  term_sound (Literal k z) h = value_sound _ (evaluate (setup c) c.item now (Literal k z)) (Honest (Literal k z)) (λ facts n news st go vars answers hq m s.
       gives (word k z) answers refl h (at_once c launch go (ArrivesAsValue c (word k z)) (value k (constant z)) st (record { kind = refl; form = form_constant c news z }) s))
-  term_sound (Variable x) h = value_sound _ (evaluate (setup c) c.item (Variable x)) (Honest (Variable x)) (λ facts n news st go vars answers hq m s.
+  term_sound (Variable x) h = value_sound _ (evaluate (setup c) c.item now (Variable x)) (Honest (Variable x)) (λ facts n news st go vars answers hq m s.
       let w = slice_index_or vars x zero_word in
       gives w answers refl (m.right x) (at_once c launch go (ArrivesAsValue c w) (variable st x) st (m.each x) s))
-  term_sound (Id k f d) h = value_sound _ (evaluate (setup c) c.item (Id k f d)) (Honest (Id k f d)) (λ facts n news st go vars answers hq m s.
+  term_sound (Id k f d) h = value_sound _ (evaluate (setup c) c.item now (Id k f d)) (Honest (Id k f d)) (λ facts n news st go vars answers hq m s.
       let i = identity (setup c) c.item f d in
       gives (word k (pos i)) answers refl (id-in k i h (id-below c f d)) (at_once c launch go (ArrivesAsValue c (word k (pos i))) (value k (id_form (walks c) f d)) st (record { kind = refl; form = form_id c news f d }) s))
   term_sound (Load a site e) h =
       let p = and_parts (c.spaces a.space) (covers_term c.spaces e) h in
       let t = term_sound e p.1 in
-      value_sound _ (evaluate (setup c) c.item (Load a site e)) (Honest (Load a site e)) (λ facts n news st go vars answers hq m s.
+      value_sound _ (evaluate (setup c) c.item now (Load a site e)) (Honest (Load a site e)) (λ facts n news st go vars answers hq m s.
       goes_then c launch (λ k r. loaded (setup c) a site k.value r) (t.value facts n news st (λ x st1. load (walks c) a site x.form st1 go) vars answers hq.0 m s) (λ k r is i p'.
-      load_sound c launch r a site p'.arrived.form k.value p'.state go p.0 p'.right.form (behind (evaluate (setup c) c.item e vars answers) (λ k' rest. FirstHeld (setup c) c.conditions.contents a rest) k r is hq.1) p'.stands))
+      load_sound c launch r a site p'.arrived.form k.value p'.state go p.0 p'.right.form (behind (evaluate (setup c) c.item now e vars answers) (λ k' rest. FirstHeld (setup c) c.conditions.contents a rest) k r is hq.1) p'.stands))
   term_sound (Unary op k site e) h =
       let p = and_parts (is_covered_unary op k) (covers_term c.spaces e) h in
       let t = term_sound e p.1 in
-      value_sound _ (evaluate (setup c) c.item (Unary op k site e)) (Honest (Unary op k site e)) (λ facts n news st go vars answers hq m s.
+      value_sound _ (evaluate (setup c) c.item now (Unary op k site e)) (Honest (Unary op k site e)) (λ facts n news st go vars answers hq m s.
       goes_then c launch (λ a r. settled (calculate_unary op Exact k a.value) site r) (t.value facts n news st (λ x st1. unary (walks c) op k x (at_site site st1) go) vars answers hq m s) (λ a r is i q.
       yields_goes site r (unary_sound c launch op k p.0 a q.arrived (at_site site q.state) go i q.right q.stands)))
   term_sound (Binary op k site a b) h =
       let p = and_parts (covers_term c.spaces a) (covers_term c.spaces b) h in
       let ta = term_sound a p.0 in
       let tb = term_sound b p.1 in
-      value_sound _ (evaluate (setup c) c.item (Binary op k site a b)) (Honest (Binary op k site a b)) (λ facts n news st go vars answers hq m s.
-      pair_sound (walk (walks c) a) (walk (walks c) b) (evaluate (setup c) c.item a) (evaluate (setup c) c.item b) (Honest a) (Honest b) ta tb facts n news st (λ x y st2. both_brought (walks c) k x y (at_site site st2) (λ x' y' st3. binary (walks c) op k x'.form y'.form st3 go)) go (ArrivesAsValue c) (λ u v r. settled (operate op Exact k u v) site r) vars answers hq m
+      value_sound _ (evaluate (setup c) c.item now (Binary op k site a b)) (Honest (Binary op k site a b)) (λ facts n news st go vars answers hq m s.
+      pair_sound (walk (walks c) a) (walk (walks c) b) (evaluate (setup c) c.item now a) (evaluate (setup c) c.item now b) (Honest a) (Honest b) ta tb facts n news st (λ x y st2. both_brought (walks c) k x y (at_site site st2) (λ x' y' st3. binary (walks c) op k x'.form y'.form st3 go)) go (ArrivesAsValue c) (λ u v r. settled (operate op Exact k u v) site r) vars answers hq m
       (λ path j more st2 x y u v rest iu iv mx my s'.
       let q = both_sound c launch k u v x y (at_site site st2) (λ x' y' st3. binary (walks c) op k x'.form y'.form st3 go) iu iv mx my s' in
       let y' = binary_sound c launch op laws k q.arrived.0.form q.arrived.1.form (as_kind k u.value) (as_kind k v.value) q.state go (as_kind-in_kind k u.value) (as_kind-in_kind k v.value) q.right.0.form q.right.1.form q.stands in
@@ -190,15 +194,15 @@ module _ {E : Type 0} (c : View E) (launch : List Fact) (laws : DividesLawfully 
       yields_goes site rest (record { result = y'.result; is = ap₂ (calculate op Exact k) t.0 t.1 ∙ y'.is; right = y'.right; comes = onward c launch q y'.comes })) s)
   term_sound (Convert k site e) h =
       let t = term_sound e h in
-      value_sound _ (evaluate (setup c) c.item (Convert k site e)) (Honest (Convert k site e)) (λ facts n news st go vars answers hq m s.
+      value_sound _ (evaluate (setup c) c.item now (Convert k site e)) (Honest (Convert k site e)) (λ facts n news st go vars answers hq m s.
       goes_then c launch (λ a r. settled (convert Exact k a.value) site r) (t.value facts n news st (λ x st1. brought (walks c) k x (at_site site st1) go) vars answers hq m s) (λ a r is i q.
       yields_goes site r (settled_yields c launch k a.value go (brought_sound c launch k a q.arrived (at_site site q.state) go i q.right q.stands))))
   term_sound (Compare r k a b) h =
       let p = and_parts (covers_term c.spaces a) (covers_term c.spaces b) h in
       let ta = term_sound a p.0 in
       let tb = term_sound b p.1 in
-      truth_sound _ (evaluate (setup c) c.item (Compare r k a b)) (Honest (Compare r k a b)) (λ facts n news st go vars answers hq m s.
-      pair_sound (walk (walks c) a) (walk (walks c) b) (evaluate (setup c) c.item a) (evaluate (setup c) c.item b) (Honest a) (Honest b) ta tb facts n news st (λ x y st2. both_brought (walks c) k x y st2 (λ x' y' st3. split (walks c) false r x'.form y'.form st3 go)) go ArrivesAsTruth (λ u v rest. Gives (truth (compare r k u v)) rest) vars answers hq m
+      truth_sound _ (evaluate (setup c) c.item now (Compare r k a b)) (Honest (Compare r k a b)) (λ facts n news st go vars answers hq m s.
+      pair_sound (walk (walks c) a) (walk (walks c) b) (evaluate (setup c) c.item now a) (evaluate (setup c) c.item now b) (Honest a) (Honest b) ta tb facts n news st (λ x y st2. both_brought (walks c) k x y st2 (λ x' y' st3. split (walks c) false r x'.form y'.form st3 go)) go ArrivesAsTruth (λ u v rest. Gives (truth (compare r k u v)) rest) vars answers hq m
       (λ path j more st2 x y u v rest iu iv mx my s'.
       let q = both_sound c launch k u v x y st2 (λ x' y' st3. split (walks c) false r x'.form y'.form st3 go) iu iv mx my s' in
       let t = split_sound c launch false r q.arrived.0.form q.arrived.1.form (as_kind k u.value) (as_kind k v.value) q.state go q.right.0.form q.right.1.form q.stands in
@@ -206,49 +210,81 @@ module _ {E : Type 0} (c : View E) (launch : List Fact) (laws : DividesLawfully 
       gives (truth (compare r k u v)) rest refl (truth-in (compare r k u v)) (onward c launch q (restated c launch (λ more b kept e. ap truth (ap₂ (holds r) o.0 o.1 ∙ sym e)) t))) s)
   term_sound (Not e) h =
       let t = term_sound e h in
-      truth_sound _ (evaluate (setup c) c.item (Not e)) (Honest (Not e)) (λ facts n news st go vars answers hq m s.
+      truth_sound _ (evaluate (setup c) c.item now (Not e)) (Honest (Not e)) (λ facts n news st go vars answers hq m s.
       goes_then c launch (λ a r. Gives (truth (is_zero a.value)) r) (t.test facts n news st (λ b st1. go (not b) st1) vars answers hq m s) (λ a r is i q.
       truth_goes (is_zero a.value) (not q.arrived) q.state go r (sym (not-not (is_zero a.value) q.arrived q.right)) q.stands))
   term_sound (And a b) h =
       let p = and_parts (covers_term c.spaces a) (covers_term c.spaces b) h in
       let ta = term_sound a p.0 in
       let tb = term_sound b p.1 in
-      truth_sound _ (evaluate (setup c) c.item (And a b)) (Honest (And a b)) (λ facts n news st go vars answers hq m s.
-      goes_then c launch (λ u r. decide (is_zero u.value) (Gives (truth false) r) (and_then (evaluate (setup c) c.item b vars r) (λ v r'. Gives (truth (not (is_zero v.value))) r'))) (ta.test facts n news st (λ t st1. chosen t ((walk (walks c) b).test st1 go) (go false st1)) vars answers hq.0 m s) (λ u r is i q.
+      truth_sound _ (evaluate (setup c) c.item now (And a b)) (Honest (And a b)) (λ facts n news st go vars answers hq m s.
+      goes_then c launch (λ u r. decide (is_zero u.value) (Gives (truth false) r) (and_then (evaluate (setup c) c.item now b vars r) (λ v r'. Gives (truth (not (is_zero v.value))) r'))) (ta.test facts n news st (λ t st1. chosen t ((walk (walks c) b).test st1 go) (go false st1)) vars answers hq.0 m s) (λ u r is i q.
       other_goes (is_zero u.value) q.arrived q.state ((walk (walks c) b).test q.state go) (go false q.state) q.right q.stands
-      (λ z s'. tested_goes (walk (walks c) b) (evaluate (setup c) c.item b) (Honest b) tb q.state go vars r (behind (evaluate (setup c) c.item a vars answers) (λ w rest. is_zero w.value ≡ false → Honest b vars rest) u r is hq.1 z) (forms_at q vars m) s')
+      (λ z s'. tested_goes (walk (walks c) b) (evaluate (setup c) c.item now b) (Honest b) tb q.state go vars r (behind (evaluate (setup c) c.item now a vars answers) (λ w rest. is_zero w.value ≡ false → Honest b vars rest) u r is hq.1 z) (forms_at q vars m) s')
       (λ z s'. truth_goes false false q.state go r refl s')))
   term_sound (Or a b) h =
       let p = and_parts (covers_term c.spaces a) (covers_term c.spaces b) h in
       let ta = term_sound a p.0 in
       let tb = term_sound b p.1 in
-      truth_sound _ (evaluate (setup c) c.item (Or a b)) (Honest (Or a b)) (λ facts n news st go vars answers hq m s.
-      goes_then c launch (λ u r. decide (not (is_zero u.value)) (Gives (truth true) r) (and_then (evaluate (setup c) c.item b vars r) (λ v r'. Gives (truth (not (is_zero v.value))) r'))) (ta.test facts n news st (λ t st1. chosen t (go true st1) ((walk (walks c) b).test st1 go)) vars answers hq.0 m s) (λ u r is i q.
+      truth_sound _ (evaluate (setup c) c.item now (Or a b)) (Honest (Or a b)) (λ facts n news st go vars answers hq m s.
+      goes_then c launch (λ u r. decide (not (is_zero u.value)) (Gives (truth true) r) (and_then (evaluate (setup c) c.item now b vars r) (λ v r'. Gives (truth (not (is_zero v.value))) r'))) (ta.test facts n news st (λ t st1. chosen t (go true st1) ((walk (walks c) b).test st1 go)) vars answers hq.0 m s) (λ u r is i q.
       chosen_goes (not (is_zero u.value)) q.arrived q.state (go true q.state) ((walk (walks c) b).test q.state go) q.right q.stands
       (λ z s'. truth_goes true true q.state go r refl s')
-      (λ z s'. tested_goes (walk (walks c) b) (evaluate (setup c) c.item b) (Honest b) tb q.state go vars r (behind (evaluate (setup c) c.item a vars answers) (λ w rest. is_zero w.value ≡ true → Honest b vars rest) u r is hq.1 (not-false (is_zero u.value) z)) (forms_at q vars m) s')))
+      (λ z s'. tested_goes (walk (walks c) b) (evaluate (setup c) c.item now b) (Honest b) tb q.state go vars r (behind (evaluate (setup c) c.item now a vars answers) (λ w rest. is_zero w.value ≡ true → Honest b vars rest) u r is hq.1 (not-false (is_zero u.value) z)) (forms_at q vars m) s')))
   term_sound (Select t a b) h =
       let p = and_parts (covers_term c.spaces t) (covers_term c.spaces a && covers_term c.spaces b) h in
       let p' = and_parts (covers_term c.spaces a) (covers_term c.spaces b) p.1 in
       let tt' = term_sound t p.0 in
       let ta = term_sound a p'.0 in
       let tb = term_sound b p'.1 in
-      value_sound _ (evaluate (setup c) c.item (Select t a b)) (Honest (Select t a b)) (λ facts n news st go vars answers hq m s.
-      goes_then c launch (λ u r. decide (is_zero u.value) (evaluate (setup c) c.item b vars r) (evaluate (setup c) c.item a vars r)) (tt'.test facts n news st (λ b' st1. chosen b' ((walk (walks c) a).value st1 go) ((walk (walks c) b).value st1 go)) vars answers hq.0 m s) (λ u r is i q.
+      value_sound _ (evaluate (setup c) c.item now (Select t a b)) (Honest (Select t a b)) (λ facts n news st go vars answers hq m s.
+      goes_then c launch (λ u r. decide (is_zero u.value) (evaluate (setup c) c.item now b vars r) (evaluate (setup c) c.item now a vars r)) (tt'.test facts n news st (λ b' st1. chosen b' ((walk (walks c) a).value st1 go) ((walk (walks c) b).value st1 go)) vars answers hq.0 m s) (λ u r is i q.
       other_goes (is_zero u.value) q.arrived q.state ((walk (walks c) a).value q.state go) ((walk (walks c) b).value q.state go) q.right q.stands
-      (λ z s'. ta.value q.path q.count q.more q.state go vars r ((behind (evaluate (setup c) c.item t vars answers) (λ w rest. (is_zero w.value ≡ false → Honest a vars rest) × (is_zero w.value ≡ true → Honest b vars rest)) u r is hq.1).0 z) (forms_at q vars m) s')
-      (λ z s'. tb.value q.path q.count q.more q.state go vars r ((behind (evaluate (setup c) c.item t vars answers) (λ w rest. (is_zero w.value ≡ false → Honest a vars rest) × (is_zero w.value ≡ true → Honest b vars rest)) u r is hq.1).1 z) (forms_at q vars m) s')))
+      (λ z s'. ta.value q.path q.count q.more q.state go vars r ((behind (evaluate (setup c) c.item now t vars answers) (λ w rest. (is_zero w.value ≡ false → Honest a vars rest) × (is_zero w.value ≡ true → Honest b vars rest)) u r is hq.1).0 z) (forms_at q vars m) s')
+      (λ z s'. tb.value q.path q.count q.more q.state go vars r ((behind (evaluate (setup c) c.item now t vars answers) (λ w rest. (is_zero w.value ≡ false → Honest a vars rest) × (is_zero w.value ≡ true → Honest b vars rest)) u r is hq.1).1 z) (forms_at q vars m) s')))
   term_sound (Minimum a b) h =
       let p = and_parts (covers_term c.spaces a) (covers_term c.spaces b) h in
       let ta = term_sound a p.0 in
       let tb = term_sound b p.1 in
-      value_sound _ (evaluate (setup c) c.item (Minimum a b)) (Honest (Minimum a b)) (λ facts n news st go vars answers hq m s.
-      pair_sound (walk (walks c) a) (walk (walks c) b) (evaluate (setup c) c.item a) (evaluate (setup c) c.item b) (Honest a) (Honest b) ta tb facts n news st (λ x y st2. pick (walks c) false y x y x st2 go) go (ArrivesAsValue c) (λ u v r. Gives (smaller u v) r) vars answers hq m
+      value_sound _ (evaluate (setup c) c.item now (Minimum a b)) (Honest (Minimum a b)) (λ facts n news st go vars answers hq m s.
+      pair_sound (walk (walks c) a) (walk (walks c) b) (evaluate (setup c) c.item now a) (evaluate (setup c) c.item now b) (Honest a) (Honest b) ta tb facts n news st (λ x y st2. pick (walks c) false y x y x st2 go) go (ArrivesAsValue c) (λ u v r. Gives (smaller u v) r) vars answers hq m
       (λ path j more st2 x y u v rest iu iv mx my s'. picked_goes c launch false v u y x st2 go rest iv iu my mx s') s)
   term_sound (Maximum a b) h =
       let p = and_parts (covers_term c.spaces a) (covers_term c.spaces b) h in
       let ta = term_sound a p.0 in
       let tb = term_sound b p.1 in
-      value_sound _ (evaluate (setup c) c.item (Maximum a b)) (Honest (Maximum a b)) (λ facts n news st go vars answers hq m s.
-      pair_sound (walk (walks c) a) (walk (walks c) b) (evaluate (setup c) c.item a) (evaluate (setup c) c.item b) (Honest a) (Honest b) ta tb facts n news st (λ x y st2. pick (walks c) true x y y x st2 go) go (ArrivesAsValue c) (λ u v r. Gives (larger u v) r) vars answers hq m
+      value_sound _ (evaluate (setup c) c.item now (Maximum a b)) (Honest (Maximum a b)) (λ facts n news st go vars answers hq m s.
+      pair_sound (walk (walks c) a) (walk (walks c) b) (evaluate (setup c) c.item now a) (evaluate (setup c) c.item now b) (Honest a) (Honest b) ta tb facts n news st (λ x y st2. pick (walks c) true x y y x st2 go) go (ArrivesAsValue c) (λ u v r. Gives (larger u v) r) vars answers hq m
       (λ path j more st2 x y u v rest iu iv mx my s'. picked_goes c launch true u v x y st2 go rest iu iv mx my s') s)
+  term_sound (Shift d k a b) h =
+      let p = and_parts (covers_term c.spaces a) (covers_term c.spaces b) h in
+      let ta = term_sound a p.0 in
+      let tb = term_sound b p.1 in
+      value_sound _ (evaluate (setup c) c.item now (Shift d k a b)) (Honest (Shift d k a b)) (λ facts n news st go vars answers hq m s.
+      pair_sound (walk (walks c) a) (walk (walks c) b) (evaluate (setup c) c.item now a) (evaluate (setup c) c.item now b) (Honest a) (Honest b) ta tb facts n news st (λ x y st2. brought (walks c) k x st2 (λ x' st3. shifted (walks c) d k x'.form y.form st3 go)) go (ArrivesAsValue c) (λ u v r. Gives (evaluation.shifted d k u v) r) vars answers hq m
+      (λ path j more st2 x y u v rest iu iv mx my s'.
+      let q = brought_sound c launch k u x st2 (λ x' st3. shifted (walks c) d k x'.form y.form st3 go) iu mx s' in
+      let o = q.comes in
+      let w = shift d k (as_kind k u.value) (count_of v.value) in
+      gives w rest (ap (λ z. Gives (shift d k z (count_of v.value)) rest) (operand-is k u.value q.settles)) (shift-in d k (as_kind k u.value) (count_of v.value) (as_kind-in_kind k u.value))
+      (onward c launch o (shifted_sound c launch d k o.arrived.form y.form (as_kind k u.value) v.value o.state go (as_kind-in_kind k u.value) o.right.form (value_kept c o.way.kept my).form o.stands))) s)
+  term_sound (Within site size e) h =
+      let t = term_sound e h in
+      value_sound _ (evaluate (setup c) c.item now (Within site size e)) (Honest (Within site size e)) (λ facts n news st go vars answers hq m s.
+      goes_then c launch (λ k r. settled (inside (within size k.value) k) site r) (t.value facts n news st (λ x st1. in_length (walks c) (constant (pos size)) x.form (at_site site st1) (λ st2. go x st2)) vars answers hq m s) (λ k r is i q.
+      let l = lies c launch size (constant (pos size)) q.arrived.form k.value (at_site site q.state) (λ st2. go q.arrived st2) (form_constant c q.more (pos size)) q.right.form q.stands in
+      gives k r (ap (λ at. settled (inside at k) site r) (within-at size l.index k.value l.same l.below)) i
+      (onward c launch l.comes (at_once c launch go (ArrivesAsValue c k) q.arrived l.comes.state (value_kept c l.comes.way.kept q.right) l.comes.stands))))
+  term_sound (Opaque n at k a b e) h =
+      let p = and_parts (covers_term c.spaces a) (covers_term c.spaces b && covers_term c.spaces e) h in
+      let p' = and_parts (covers_term c.spaces b) (covers_term c.spaces e) p.1 in
+      let ta = term_sound a p.0 in
+      let tb = term_sound b p'.0 in
+      let te = term_sound e p'.1 in
+      value_sound _ (evaluate (setup c) c.item now (Opaque n at k a b e)) (Honest (Opaque n at k a b e)) (λ facts m news st go vars answers hq f s.
+      goes_then c launch (λ u r. and_then (evaluate (setup c) c.item now b vars r) (λ v r'. and_then (evaluate (setup c) c.item now e vars r') (λ w r''. Gives (opaque (setup c) c.item now n at k u v w) r''))) (ta.value facts m news st (λ x st1. (walk (walks c) b).value st1 (λ y st2. (walk (walks c) e).value st2 (λ z st3. unknown (walks c) k st3 go))) vars answers hq.0 f s) (λ u r is iu q.
+      pair_sound (walk (walks c) b) (walk (walks c) e) (evaluate (setup c) c.item now b) (evaluate (setup c) c.item now e) (Honest b) (Honest e) tb te q.path q.count q.more q.state (λ y z st3. unknown (walks c) k st3 go) go (ArrivesAsValue c) (λ v w r'. Gives (opaque (setup c) c.item now n at k u v w) r') vars r
+      (behind (evaluate (setup c) c.item now a vars answers) (λ x rest. Honest b vars rest × Behind (evaluate (setup c) c.item now b vars rest) (λ y rest'. Honest e vars rest')) u r is hq.1) (forms_at q vars f)
+      (λ path j more st3 y z v w rest iv iw my mz s'.
+      let g = opaque (setup c) c.item now n at k u v w in
+      gives g rest refl (as_kind-in_kind k _) (unknown_sound c launch k st3 go g.value (as_kind-in_kind k _) s')) q.stands))

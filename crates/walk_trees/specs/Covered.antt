@@ -1,7 +1,7 @@
 -- The terms that the walk covers.
 use Rattle.std.specs.Prelude.{Bool, true, false, ◌&&◌, nat_lt}
 use Rattle.semantics.specs.Word.{Kind, Int, Uint, Size, in_kind, UnaryOperator, Negate, Complement, ShiftLeft, ShiftRight}
-use Rattle.semantics.specs.Core.{Space, Term, Literal, Variable, Id, Load, Unary, Binary, Convert, Compare, Not, And, Or, Select, Minimum, Maximum}
+use Rattle.semantics.specs.Core.{Space, Term, Literal, Variable, Id, Load, Unary, Binary, Convert, Compare, Not, And, Or, Select, Minimum, Maximum, Shift, Within, Opaque}
 
 abbrev pub is_uint : Kind → Bool
 is_uint Int = false
@@ -37,3 +37,6 @@ covers_term sp (Or a b) = covers_term sp a && covers_term sp b
 covers_term sp (Select t a b) = covers_term sp t && (covers_term sp a && covers_term sp b)
 covers_term sp (Minimum a b) = covers_term sp a && covers_term sp b
 covers_term sp (Maximum a b) = covers_term sp a && covers_term sp b
+covers_term sp (Shift d k a b) = covers_term sp a && covers_term sp b
+covers_term sp (Within site n i) = covers_term sp i
+covers_term sp (Opaque n at k a b e) = covers_term sp a && (covers_term sp b && covers_term sp e)

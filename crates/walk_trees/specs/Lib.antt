@@ -8,6 +8,7 @@ pub mod SharedQuotients
 pub mod Contents
 pub mod Bits
 pub mod Operators
+pub mod Shifts
 pub mod Joined
 pub mod Tests
 pub mod Terms

@@ -2,7 +2,7 @@
 use Rattle.std.specs.Prelude.{ℕ, pos, List, [], ◌∷◌, Bool, true, false, not, ◌&&◌, cond, nat_lt, slice_index_or}
 use Rattle.semantics.specs.Word.{Kind, Int, Less}
 use Rattle.semantics.specs.Memory.{no_array}
-use Rattle.semantics.specs.Core.{Space, Global, Local, Array, Site, Function, GlobalId, LocalId, GroupId, GlobalSize, LocalSize, NumGroups, Term, Literal, Variable, Id, Load, Unary, Binary, Convert, Compare, Not, And, Or, Select, Minimum, Maximum}
+use Rattle.semantics.specs.Core.{Space, Global, Local, Array, Site, Function, GlobalId, LocalId, GroupId, GlobalSize, LocalSize, NumGroups, Term, Literal, Variable, Id, Load, Unary, Binary, Convert, Compare, Not, And, Or, Select, Minimum, Maximum, Shift, Within, Opaque}
 use Rattle.semantics.specs.Setup.{along}
 use Rattle.linear.specs.Exact.{sum, multiple}
 use Rattle.facts.specs.Symbols as symbols
@@ -13,6 +13,7 @@ use Rattle.walk_trees.specs.Values.{Value, value}
 use Rattle.walk_trees.specs.Walks.{Setting, State, Onward, spot_at, at_site, claim_form, unknown, brought, both_brought}
 use Rattle.walk_trees.specs.Contents.{contents_of, know_contents, claim_contents}
 use Rattle.walk_trees.specs.Operators.{unary, binary}
+use Rattle.walk_trees.specs.Shifts.{shifted}
 use Rattle.walk_trees.specs.Joined.{same_kind, are_joined, pick_joined}
 use Rattle.walk_trees.specs.Tests.{Outcomes, split, split_number}
 
@@ -65,9 +66,16 @@ length_in s Local b = constant (pos (slice_index_or s.arrays b no_array).length)
 abbrev pub length_form : {E : Type 0} → Setting E → Array → Fact
 length_form s a = length_in s a.space a.number
 
--- an index is at least 0, and below its array's length
+-- an index is at least 0, and at most a last one
+abbrev pub up_to_last : {E : Type 0} → Setting E → (last index : Fact) → State E → (State E → Tree E) → Tree E
+up_to_last s last i st go = claim_form s OfIndex true i st (λ st'. claim_form s OfIndex true (minus last i) st' go)
+
+-- it is below a length
+abbrev pub in_length : {E : Type 0} → Setting E → (length index : Fact) → State E → (State E → Tree E) → Tree E
+in_length s n i st go = up_to_last s (minus n (constant (pos 1))) i st go
+
 abbrev pub in_array : {E : Type 0} → Setting E → Array → Fact → State E → (State E → Tree E) → Tree E
-in_array s a i st go = claim_form s OfIndex true i st (λ st'. claim_form s OfIndex true (minus (minus (length_form s a) (constant (pos 1))) i) st' go)
+in_array s a i st go = in_length s (length_form s a) i st go
 
 abbrev pub target_at : {E : Type 0} → Bool → Array → Site → State E → Target
 target_at is_store a site st = record { is_store = is_store; array = a; spot = spot_at site st }
@@ -139,3 +147,8 @@ walk s (Or a b) = by_test (λ st go. (walk s a).test st (λ t st1. chosen t (go 
 walk s (Select t a b) = by_value s (λ st go. (walk s t).test st (λ c st1. chosen c ((walk s a).value st1 go) ((walk s b).value st1 go)))
 walk s (Minimum a b) = by_value s (λ st go. (walk s a).value st (λ x st1. (walk s b).value st1 (λ y st2. pick s false y x y x st2 go)))
 walk s (Maximum a b) = by_value s (λ st go. (walk s a).value st (λ x st1. (walk s b).value st1 (λ y st2. pick s true x y y x st2 go)))
+walk s (Shift d k a b) = by_value s (λ st go.
+    (walk s a).value st (λ x st1. (walk s b).value st1 (λ y st2. brought s k x st2 (λ x' st3. shifted s d k x'.form y.form st3 go))))
+walk s (Within site n i) = by_value s (λ st go. (walk s i).value st (λ x st1. in_length s (constant (pos n)) x.form (at_site site st1) (λ st2. go x st2)))
+walk s (Opaque n at k a b e) = by_value s (λ st go.
+    (walk s a).value st (λ x st1. (walk s b).value st1 (λ y st2. (walk s e).value st2 (λ z st3. unknown s k st3 go))))

@@ -253,6 +253,48 @@ pub fn shr(w: Word, k: u32) -> Result<Word, Fault>
     Ok(Word::Uint(w.bits() >> k))
 }
 
+/// How far a shift by a word goes: as its lowest five bits say (OpenCL 1.2, 6.3 j).
+pub fn count_of(w: Word) -> u32
+    ensures value { result ≡ semantics.count_of (value_of w) }
+    ensures few { result ≤ 31 }
+{
+    w.bits() % 32
+}
+
+/// The number of a kind that has the 32 bits of a product with 2^k.
+fn int_shifted_left(value: i32, k: u32) -> Word
+    requires { k ≤ 31 }
+    ensures { word result ≡ semantics.shift semantics.Leftward semantics.Int value k }
+{
+    let product = value as i64 * power(k) as i64;
+    Word::from_bits(Kind::Int, product.rem_euclid(1 << 32) as u32)
+}
+
+/// The 32 bits of `w` times 2^k, as a number of its kind (C99 6.5.7; of an `int` too, where C99 leaves some undefined).
+pub fn shift_left(w: Word, k: u32) -> Word
+    requires { k ≤ 31 }
+    ensures { word result ≡ semantics.shift semantics.Leftward (kind_of w) (value_of w) k }
+{
+    match w {
+        Word::Int(value) => int_shifted_left(value, k),
+        Word::Uint(value) => Word::Uint(value << k),
+        Word::Size(value) => Word::Size(value << k),
+    }
+}
+
+/// `w` divided by 2^k, rounded down (C99 6.5.7; a negative number stays one).
+#[tactic(auto, using(crate::proofs::Powers::shifted_down))]
+pub fn shift_right(w: Word, k: u32) -> Word
+    requires { k ≤ 31 }
+    ensures { word result ≡ semantics.shift semantics.Rightward (kind_of w) (value_of w) k }
+{
+    match w {
+        Word::Int(value) => Word::Int(value >> k),
+        Word::Uint(value) => Word::Uint(value >> k),
+        Word::Size(value) => Word::Size(value >> k),
+    }
+}
+
 /// The word's number in a kind: modulo 2^32 in `Uint`, an overflow where `Int` or `Size` lacks it (C99 6.3.1.3).
 pub fn convert(w: Word, to: Kind) -> Result<Word, Fault>
     ensures { seen result ≡ semantics.convert semantics.Exact (kind to) (value_of w) }

@@ -6,7 +6,7 @@ use Rattle.semantics.specs.Core.{Array, Site, Statement, Set, Store, If, Loop, B
 use Rattle.semantics.specs.Setup.{Setup}
 use Rattle.semantics.specs.Memory.{extent}
 use Rattle.semantics.specs.Evaluation.{Outcome, Gives, Needs, Faults, evaluate, Index, At, Outside, within}
-use Rattle.semantics.specs.Item.{Entry, Item, Status, Running, Waiting, Ended, Stopped, enter, leave, resume, update_of}
+use Rattle.semantics.specs.Item.{Entry, Item, Status, Running, Waiting, Ended, Stopped, enter, leave, resume, update_of, trail}
 use Rattle.semantics.specs.Ask.{Ask, on_value, stores, choose, act, front, passes, by_status, ask}
 use Rattle.semantics.specs.Solo.{moved}
 use Rattle.work_item.specs.Proper.{is_proper_term, is_proper_statement, are_proper, is_proper_left}
@@ -68,20 +68,20 @@ stored s i it Outside a site value rest h p = λ answer. h
 
 acts : (s : Setup) (i : ℕ) (it : Item) (st : Statement) (turns : ℕ) (rest : List Entry) → is_proper_left it.left ≡ true → is_proper_statement st ≡ true → is_proper_left rest ≡ true → Keeps it (act s i it st turns rest)
 unfolding Keeps
-acts s i it (Set n x e) turns rest h p r = valued s i it (evaluate s i e it.variables it.answers) _ h (λ v later answer. r)
+acts s i it (Set n x e) turns rest h p r = valued s i it (evaluate s i (trail it.left) e it.variables it.answers) _ h (λ v later answer. r)
 acts s i it (Store n a site k e) turns rest h p r =
-    valued s i it (evaluate s i k it.variables it.answers) _ h (λ index later.
-    valued s i it (evaluate s i e it.variables later) _ h (λ v _. stored s i it (within (extent s a) index.value) a site v.value rest h r))
+    valued s i it (evaluate s i (trail it.left) k it.variables it.answers) _ h (λ index later.
+    valued s i it (evaluate s i (trail it.left) e it.variables later) _ h (λ v _. stored s i it (within (extent s a) index.value) a site v.value rest h r))
 acts s i it (If n e taken skipped) turns rest h p r =
     let q = and_parts (is_proper_term e) (are_proper taken && are_proper skipped) p in
     let b = and_parts (are_proper taken) (are_proper skipped) q.1 in
-    valued s i it (evaluate s i e it.variables it.answers) _ h (λ v later answer.
+    valued s i it (evaluate s i (trail it.left) e it.variables it.answers) _ h (λ v later answer.
     chooses (is_zero v.value) (enter skipped rest) (enter taken rest) (enters skipped rest b.1 r) (enters taken rest b.0 r))
 acts s i it (Loop n e body update) turns rest h p r =
     let q = and_parts (is_proper_term e) (are_proper body && are_proper update) p in
     let b = and_parts (are_proper body) (are_proper update) q.1 in
     let again : List Entry = record { statement = Loop n e body update; turns = turns + 1 } ∷ rest in
-    valued s i it (evaluate s i e it.variables it.answers) _ h (λ v later answer.
+    valued s i it (evaluate s i (trail it.left) e it.variables it.answers) _ h (λ v later answer.
     chooses (is_zero v.value) rest (enter body (enter update again)) r
     (enters body (enter update again) b.0 (enters update again b.1 (both (is_proper_statement (Loop n e body update)) (is_proper_left rest) p r))))
 acts s i it (Barrier n l g) turns rest h p r = λ answer. h

@@ -5,3 +5,4 @@ pub mod Identities
 pub mod Keeping
 pub mod Passing
 pub mod Trails
+pub mod RoundedDown

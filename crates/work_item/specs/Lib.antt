@@ -4,3 +4,4 @@ pub mod Left
 pub mod Items
 pub mod Asks
 pub mod Rests
+pub mod Reckoned

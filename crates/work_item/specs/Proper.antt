@@ -1,8 +1,8 @@
 -- Proper kernels: each value of a term is a word of 32 bits, and all work-items of a launch have numbers of 64 bits. Those which are read
 -- from a text are proper (`sound_kernels`); of others `is_proper` tests it.
-use Rattle.std.specs.Prelude.{ℕ, List, [], ◌∷◌, Bool, true, false, ◌&&◌, nat_le, nat_lt}
+use Rattle.std.specs.Prelude.{ℕ, ◌^◌, List, [], ◌∷◌, Bool, true, false, ◌&&◌, nat_le, nat_lt}
 use Rattle.semantics.specs.Word.{Kind, Int, Uint, Size, UnaryOperator, Negate, Complement, ShiftLeft, ShiftRight, in_kind}
-use Rattle.semantics.specs.Core.{Term, Literal, Variable, Id, Load, Unary, Binary, Convert, Compare, Not, And, Or, Select, Minimum, Maximum, Statement, Set, Store, If, Loop, Barrier, Return, Break, Continue, Statements, none, one}
+use Rattle.semantics.specs.Core.{Term, Literal, Variable, Id, Load, Unary, Binary, Convert, Compare, Not, And, Or, Select, Minimum, Maximum, Shift, Within, Opaque, Statement, Set, Store, If, Loop, Barrier, Return, Break, Continue, Statements, none, one}
 use Rattle.semantics.specs.Launch.{Three, product, Kernel}
 use Rattle.semantics.specs.Item.{Entry}
 
@@ -11,6 +11,16 @@ abbrev pub is_shift : Kind → ℕ → Bool
 is_shift Int by = false
 is_shift Uint by = nat_le by 31
 is_shift Size by = false
+
+-- a shift by a term is one of `int` or `uint`: a number that is taken for a size may be none, and so may its quotient
+abbrev pub is_shift_kind : Kind → Bool
+is_shift_kind Int = true
+is_shift_kind Uint = true
+is_shift_kind Size = false
+
+-- a length is a number of 32 bits
+abbrev pub is_length : ℕ → Bool
+is_length n = nat_lt n (2 ^ 32)
 
 -- an id is a number of 32 bits, and an `int` need not have it
 abbrev pub is_id_kind : Kind → Bool
@@ -39,6 +49,9 @@ is_proper_term (Or a b) = is_proper_term a && is_proper_term b
 is_proper_term (Select t a b) = is_proper_term t && (is_proper_term a && is_proper_term b)
 is_proper_term (Minimum a b) = is_proper_term a && is_proper_term b
 is_proper_term (Maximum a b) = is_proper_term a && is_proper_term b
+is_proper_term (Shift d k a b) = is_shift_kind k && (is_proper_term a && is_proper_term b)
+is_proper_term (Within site n e) = is_length n && is_proper_term e
+is_proper_term (Opaque n at k a b c) = is_proper_term a && (is_proper_term b && is_proper_term c)
 
 abbrev mutual
   pub is_proper_statement : Statement → Bool

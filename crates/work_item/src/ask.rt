@@ -126,7 +126,7 @@ impl Identity<'_> {
     ) -> Ask<'b>
         requires index { is_proper_term (term_seen index.now) ≡ true }
         requires value { is_proper_term (term_seen value.now) ≡ true }
-        ensures { (i : ℕ) → IsItem self.now i → asked result (item_seen item.now) ≡ meaning.on_value (setup_at self.now) i (item_seen item.now) (evaluate (setup_at self.now) i (term_seen index.now) (item_seen item.now).variables (item_seen item.now).answers) (λ k later. meaning.on_value (setup_at self.now) i (item_seen item.now) (evaluate (setup_at self.now) i (term_seen value.now) (item_seen item.now).variables later) (λ v _. meaning.stores (setup_at self.now) i (item_seen item.now) (array_seen array) (site_seen site) (within (extent (setup_at self.now) (array_seen array)) k.value) v.value (behind (item_seen item.now).left))) }
+        ensures { (i : ℕ) → IsItem self.now i → asked result (item_seen item.now) ≡ meaning.on_value (setup_at self.now) i (item_seen item.now) (evaluate (setup_at self.now) i (items.trail (item_seen item.now).left) (term_seen index.now) (item_seen item.now).variables (item_seen item.now).answers) (λ k later. meaning.on_value (setup_at self.now) i (item_seen item.now) (evaluate (setup_at self.now) i (items.trail (item_seen item.now).left) (term_seen value.now) (item_seen item.now).variables later) (λ v _. meaning.stores (setup_at self.now) i (item_seen item.now) (array_seen array) (site_seen site) (within (extent (setup_at self.now) (array_seen array)) k.value) v.value (behind (item_seen item.now).left))) }
     {
         let variables = item.variables.as_slice();
         let index = match self.evaluate(index, variables, item.answers.as_slice()) {

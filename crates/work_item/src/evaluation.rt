@@ -1,6 +1,6 @@
 //! The values of terms.
 
-ghost use Rattle.std.specs.Prelude.{◌≡◌, ℕ, ℤ, [], true, map, length, slice_index_or, Result, MatchOption};
+ghost use Rattle.std.specs.Prelude.{◌≡◌, ℕ, ℤ, List, [], true, map, length, slice_index_or, Result, MatchOption};
 ghost use Rattle.semantics.specs.Word as meaning;
 ghost use Rattle.semantics.specs.Evaluation as evaluation;
 ghost use Rattle.semantics.specs.Evaluation.{within, At, Outside};
@@ -12,6 +12,7 @@ ghost use Rattle.work_item.specs.View.{setup_at, ids, ids_of, IsItem, outcome};
 
 use crate::dimension::Dimension;
 use crate::operations::{id_word, literal, operate, unary};
+use crate::shifts::shifted;
 use core_code::tree::{Array, Core, Site, Space, Term};
 use launch::launches::Launch;
 use words::{Fault, Kind, Word, convert, is_zero, larger, read_as, smaller, truth};
@@ -82,6 +83,16 @@ pub fn index_within(length: usize, word: Word) -> Option<u32>
         Some(index)
     } else {
         None
+    }
+}
+
+/// A word that lies among so many elements, or the fault that it does not.
+fn inside(length: u32, word: Word) -> Result<Word, Fault>
+    ensures { seen result ≡ evaluation.inside (within length (value_of word)) (word_seen word) }
+{
+    match index_within(length as usize, word) {
+        Some(_) => Ok(word),
+        None => Err(Fault::OutOfBounds),
     }
 }
 
@@ -159,7 +170,7 @@ impl<'a> Identity<'a> {
         answers: &'b [Word],
     ) -> Result<Value<'b>, Stop>
         requires { is_proper_term (term_seen term.now) ≡ true }
-        ensures { (i : ℕ) → IsItem self.now i → outcome result ≡ evaluation.evaluate (setup_at self.now) i (term_seen term.now) (map word_seen variables.now) (map word_seen answers.now) }
+        ensures { (i : ℕ) (now : List ℕ) → IsItem self.now i → outcome result ≡ evaluation.evaluate (setup_at self.now) i now (term_seen term.now) (map word_seen variables.now) (map word_seen answers.now) }
     {
         match term {
             Term::Literal { kind, value } => Ok(Value {
@@ -281,6 +292,42 @@ impl<'a> Identity<'a> {
                 Ok(Value {
                     word: larger(left.word, right.word),
                     rest: right.rest,
+                })
+            }
+            Term::Shift {
+                direction,
+                kind,
+                value,
+                count,
+            } => {
+                let value = self.evaluate(value, variables, answers)?;
+                let count = self.evaluate(count, variables, value.rest)?;
+                Ok(Value {
+                    word: shifted(*direction, *kind, value.word, count.word),
+                    rest: count.rest,
+                })
+            }
+            Term::Within {
+                site,
+                length,
+                index,
+            } => {
+                let index = self.evaluate(index, variables, answers)?;
+                settled(inside(*length, index.word), *site, index.rest)
+            }
+            Term::Opaque {
+                kind,
+                first,
+                second,
+                third,
+                ..
+            } => {
+                let first = self.evaluate(first, variables, answers)?;
+                let second = self.evaluate(second, variables, first.rest)?;
+                let third = self.evaluate(third, variables, second.rest)?;
+                Ok(Value {
+                    word: read_as(Word::Int(0), *kind),
+                    rest: third.rest,
                 })
             }
         }

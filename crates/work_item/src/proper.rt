@@ -39,6 +39,22 @@ fn is_id_kind(kind: Kind) -> bool
     }
 }
 
+fn is_shift_kind(kind: Kind) -> bool
+    ensures { result ≡ specs.is_shift_kind (kind_seen kind) }
+{
+    match kind {
+        Kind::Int | Kind::Uint => true,
+        Kind::Size => false,
+    }
+}
+
+// A `u32` is one.
+fn is_length(length: u32) -> bool
+    ensures { result ≡ specs.is_length length }
+{
+    length <= u32::MAX
+}
+
 fn is_proper_term(term: &Term) -> bool
     ensures { result ≡ specs.is_proper_term (term_seen term.now) }
 {
@@ -65,10 +81,23 @@ fn is_proper_term(term: &Term) -> bool
             taken,
             skipped,
         } => is_proper_term(test) && is_proper_term(taken) && is_proper_term(skipped),
+        Term::Shift {
+            kind,
+            value,
+            count,
+            ..
+        } => is_shift_kind(*kind) && is_proper_term(value) && is_proper_term(count),
+        Term::Within { length, index, .. } => is_length(*length) && is_proper_term(index),
+        Term::Opaque {
+            first,
+            second,
+            third,
+            ..
+        } => is_proper_term(first) && is_proper_term(second) && is_proper_term(third),
     }
 }
 
-fn all_three(first: bool, second: bool, third: bool) -> bool
+pub(crate) fn all_three(first: bool, second: bool, third: bool) -> bool
     ensures { result ≡ (first && (second && third)) }
 {
     first && second && third
@@ -127,8 +156,8 @@ fn are_sizes(sizes: &[u32; 3]) -> bool
     x <= 1024 && y <= 1024 && z <= 1024 && 0 < x * y * z && x * y * z <= 1024
 }
 
-/// Whether a kernel is proper: each literal is a number of its kind, no id is an `int`, each shift is of a `uint` and by 31 at most, and
-/// a group has 1 to 1,024 work-items.
+/// Whether a kernel is proper: each literal is a number of its kind, no id is an `int`, each shift by a number is of a `uint` and by 31 at
+/// most, none by a term is of a size, and a group has 1 to 1,024 work-items.
 pub fn is_proper(core: &Core) -> bool
     ensures { result ≡ specs.is_proper (kernel_seen core.now) }
 {

@@ -14,7 +14,7 @@ use Rattle.reading.specs.Answers.{kernel_seen}
 use Rattle.cert_check.specs.View.{typed_of, kept}
 use Rattle.telling.proofs.Meanings.{is_safe, is_run}
 use Rattle.launch_text.specs.Answers as texts
-use Rattle.telling.proofs.Refusing.{unaccepted_run, unread_run, not_run}
+use Rattle.telling.proofs.Refusing.{unaccepted_run, unreckoned_run, unread_run, not_run}
 use Rattle.telling.proofs.run_texts.Goals as goal
 
 pub returns-in-Ok-write_buffers : goal.returns-in-Ok-write_buffers
@@ -46,6 +46,13 @@ returns-in-Err g c =
     let t = c.args.texts in
     unaccepted_run c.args.is_wide (source t.kernel) t.conditions.now t.certificate.now c.args.launch.now c.args.workers c.unaccepted.result c.in-Err.error c.in-Err.ensures.refused c.unaccepted.ensures
 
+pub returns-in-Err-can_run_accepted : goal.returns-in-Err-can_run_accepted
+returns-in-Err-can_run_accepted g c =
+    let t = typed_of c.in-Ok.accepted in
+    let x = c.args.texts in
+    let safe = is_safe c.args.is_wide (source x.kernel) x.conditions.now t (kept c.in-Ok.accepted) (c.bytes_are_the_text_of_what_is_read.ensures (source x.kernel) (kernel_seen t) c.in-Ok.ensures.kernel) (c.what_is_read_of_conditions_is_their_text.ensures c.args.is_wide (kernel t.0).parameters x.conditions.now (lined (kept c.in-Ok.accepted)) c.in-Ok.ensures.conditions) c.in-Ok.ensures.headline in
+    unreckoned_run c.args.is_wide (source x.kernel) x.conditions.now x.certificate.now c.args.launch.now c.args.workers c.not_run.result c.in-Err-can_run_accepted.error (kernel_seen t) (conditions (kept c.in-Ok.accepted)) safe c.in-Err-can_run_accepted.ensures.err c.not_run.ensures
+
 pub returns-in-Err-read_launch : goal.returns-in-Err-read_launch
 returns-in-Err-read_launch g c =
     let t = typed_of c.in-Ok.accepted in
@@ -59,5 +66,5 @@ returns-in-Err-run g c =
     let t = typed_of c.in-Ok.accepted in
     let x = c.args.texts in
     let safe = is_safe c.args.is_wide (source x.kernel) x.conditions.now t (kept c.in-Ok.accepted) (c.bytes_are_the_text_of_what_is_read.ensures (source x.kernel) (kernel_seen t) c.in-Ok.ensures.kernel) (c.what_is_read_of_conditions_is_their_text.ensures c.args.is_wide (kernel t.0).parameters x.conditions.now (lined (kept c.in-Ok.accepted)) c.in-Ok.ensures.conditions) c.in-Ok.ensures.headline in
-    not_run c.args.is_wide (source x.kernel) x.conditions.now x.certificate.now c.args.launch.now c.not_run.result c.in-Err-run.error (kernel_seen t) (kept c.in-Ok.accepted) c.in-Ok-read_launch.launch c.args.workers safe
-    (subst (λ t. launch_of (kernel t.0).parameters c.args.launch.now ≡ Ok (reading.launch c.in-Ok-read_launch.launch)) c.typed.ensures.value c.in-Ok-read_launch.ensures.value) c.in-Err-run.ensures.answers c.not_run.ensures
+    not_run c.args.is_wide (source x.kernel) x.conditions.now x.certificate.now c.args.launch.now c.not_run-in-Err-run.result c.in-Err-run.error (kernel_seen t) (kept c.in-Ok.accepted) c.in-Ok-read_launch.launch c.args.workers safe
+    (subst (λ t. launch_of (kernel t.0).parameters c.args.launch.now ≡ Ok (reading.launch c.in-Ok-read_launch.launch)) c.typed.ensures.value c.in-Ok-read_launch.ensures.value) c.in-Err-run.ensures.answers c.not_run-in-Err-run.ensures

@@ -9,8 +9,8 @@ use Rattle.findings.specs.Visits.{IsSighting}
 use Rattle.diagnostics.proofs.Runs.{confirms}
 use Rattle.diagnostics.proofs.confirmation.confirm.Goals as goal
 
-pub returns-in-Some : goal.returns-in-Some
-returns-in-Some c =
+pub returns-in-Some-clause-shown : goal.returns-in-Some-clause-shown
+returns-in-Some-clause-shown c =
     let w = c.in_ok-world.world in
     let u = c.play.new.world in
     let k = kernel c.args.typed.now.0 in

@@ -30,5 +30,5 @@ returns c =
     (λ log. (buffer index : ℕ) → written log buffer index ≡ group_log s bound g buffer index)
     (λ log h buffer index.
     h buffer index
-    ∙ c.lane_logs_are_by_rounds.ensures given.contents s refl bound g buffer index (some-items k l a.has_items) c.requires.group c.requires.fits c.typed-typed.ensures.orderly (a.is_pair_safe l c.requires.fits c.requires.meets) begins)
+    ∙ c.lane_logs_are_by_rounds.ensures given.contents s (refl, λ _ _ _ _ _ _ _ _. refl) bound g buffer index (some-items k l a.has_items) c.requires.group c.requires.fits c.typed-typed.ensures.orderly (a.is_pair_safe l c.requires.fits c.requires.meets) begins)
     of_kernel

@@ -25,6 +25,6 @@ returns g c =
     let given = conditions (kept c.args.accepted.now) in
     let begins = c.launches_begin_kept.ensures s given c.requires.fits c.requires.meets in
     let by_rounds = same-logs (lane_log s bound) (group_log s bound) (group_count s) old new
-    (λ n buffer index m. c.lane_logs_are_by_rounds.ensures given.contents s refl bound n buffer index (some-items k l a.has_items) m c.requires.fits c.typed-typed.ensures.orderly (a.is_pair_safe l c.requires.fits c.requires.meets) begins)
+    (λ n buffer index m. c.lane_logs_are_by_rounds.ensures given.contents s (refl, λ _ _ _ _ _ _ _ _. refl) bound n buffer index (some-items k l a.has_items) m c.requires.fits c.typed-typed.ensures.orderly (a.is_pair_safe l c.requires.fits c.requires.meets) begins)
     of_kernel in
     all-written s bound old new c.in_ok-buffers.ensures by_rounds

@@ -1,29 +1,13 @@
 use Rattle.linear.specs.Forms.{form}
 use Rattle.core_code.specs.View.{array}
-use Rattle.facts.specs.Symbols.{minus}
+use Rattle.facts.specs.Symbols.{constant, minus}
+use Rattle.walk_trees.specs.Terms.{length_form}
+use Rattle.std.specs.Prelude.{pos}
 use Rattle.path_steps.specs.View.{followed, setting as seen}
-use Rattle.facts.specs.View.{error_of_form}
-use Rattle.path_steps.proofs.Accessing.{room_stops, index_stops, end_stops}
-use Rattle.facts.proofs.Unmade.{unfit_of, handed}
-use Rattle.path_steps.proofs.Accessing.{array_steps}
+use Rattle.path_steps.proofs.Accessing.{up_to_same}
 use Rattle.path_steps.proofs.accesses.in_array.Goals as goal
 
 pub returns : goal.returns
 returns g c =
-    array_steps (seen g.D.Domain c.args.setting.now) (array c.args.array) (form c.args.index.now) (form c.in_ok-from_zero.from_zero) (form c.in_ok-last.last) (form c.in_ok-room.room) (followed c.args.path.now) (followed c.claim_form.new.path) (followed c.claim_form-2.new.path) c.in_ok-from_zero.ensures c.in_ok-last.ensures c.in_ok-room.ensures.exact c.in_ok-claim_form.ensures c.in_ok-claim_form-2.ensures
-
-pub returns-in_err-room : goal.returns-in_err-room
-returns-in_err-room g c =
-    let u = unfit_of c.sub.result c.in_err-room.field-0.0 (minus (form c.in_ok-last.last) (form c.args.index.now)) c.in_err-room.was c.sub.ensures.too_large in
-    let k = room_stops (seen g.D.Domain c.args.setting.now) (array c.args.array) (form c.args.index.now) (form c.in_ok-last.last) (followed c.args.path.now) (error_of_form c.in_err-room.field-0.0) c.in_ok-last.ensures u in
-    handed c.from_residual-in_err-room.result (error_of_form c.in_err-room.field-0.0) _ _ c.from_residual-in_err-room.ensures k
-
-pub returns-in_err-claim_form : goal.returns-in_err-claim_form
-returns-in_err-claim_form g c =
-    let k = index_stops (seen g.D.Domain c.args.setting.now) (array c.args.array) (form c.args.index.now) (form c.in_ok-from_zero.from_zero) (followed c.args.path.now) c.in_err-claim_form.field-0.0 c.in_ok-from_zero.ensures c.in_err-claim_form.ensures in
-    handed c.from_residual-in_err-claim_form.result c.in_err-claim_form.field-0.0 _ _ c.from_residual-in_err-claim_form.ensures k
-
-pub returns-in_err-claim_form-2 : goal.returns-in_err-claim_form-2
-returns-in_err-claim_form-2 g c =
-    let k = end_stops (seen g.D.Domain c.args.setting.now) (array c.args.array) (form c.args.index.now) (form c.in_ok-from_zero.from_zero) (form c.in_ok-last.last) (form c.in_ok-room.room) (followed c.args.path.now) (followed c.claim_form.new.path) c.in_err-claim_form-2.field-0.0 c.in_ok-from_zero.ensures c.in_ok-last.ensures c.in_ok-room.ensures.exact c.in_ok-claim_form.ensures c.in_err-claim_form-2.ensures in
-    handed c.from_residual-in_err-claim_form-2.result c.in_err-claim_form-2.field-0.0 _ _ c.from_residual-in_err-claim_form-2.ensures k
+    let s = seen g.D.Domain c.args.setting.now in
+    up_to_same s (form c.in_ok-last.last) (minus (length_form s (array c.args.array)) (constant (pos 1))) (form c.args.index.now) (followed c.args.path.now) (followed c.up_to_last.new.path) c.up_to_last.result c.in_ok-last.ensures c.up_to_last.ensures

@@ -19,4 +19,4 @@ returns-in-Some c =
     let least = sym c.in_ok-found.ensures.least ∙ ap (option_map launch_seen) c.in-Some.is in
     let fits = c.a_least_launch_fits.ensures (core_seen c.args.typed.now.1) n (launch_seen l) c.requires.of least in
     let meets = subst (λ o. IfSome o (λ x. Meets (conditions_seen n) (launch_seen x))) c.in-Some.is c.in_ok-found.ensures.met in
-    of_answer c.args.typed.now n l fits meets c.confirm.result c.confirm.ensures
+    of_answer c.args.typed.now n l fits meets c.confirm.result c.confirm.ensures.shown

@@ -4,7 +4,7 @@ use Rattle.facts.proofs.Worlds.{opening_root}
 use Rattle.walk_trees.proofs.laws.walk_of_a_term_is_sound.Goals as goal
 
 pub returns : goal.returns
-returns g c = λ k conditions is_wide joins has_entry e l i answers sized covered fits meets place honest shown.
+returns g c = λ k conditions is_wide joins has_entry e l i now answers sized covered fits meets place honest shown.
     let d = g.met.D.Domain in
     founded (record {
       walked = record {
@@ -24,4 +24,4 @@ returns g c = λ k conditions is_wide joins has_entry e l i answers sized covere
       item = i;
       place = place;
       root = opening_root;
-    }) (record { div = d.div_holds; rem = d.rem_holds; mask = d.mask_holds }) e covered answers honest shown
+    }) (record { div = d.div_holds; rem = d.rem_holds; mask = d.mask_holds }) e covered now answers honest shown

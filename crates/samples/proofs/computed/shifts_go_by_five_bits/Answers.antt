@@ -1,0 +1,12 @@
+use Rattle.std.proofs.Common.{refl}
+use Rattle.semantics.specs.Memory.{put}
+use Rattle.semantics.specs.Setup.{group_size, group_count}
+use Rattle.semantics.specs.Evaluation.{evaluate}
+use Rattle.semantics.specs.Ask.{ask}
+use Rattle.semantics.specs.Solo.{opening}
+use Rattle.semantics.specs.World.{opening_world, put_item, may_go, released, happens}
+use Rattle.samples.proofs.computed.shifts_go_by_five_bits.Goals as goal
+
+pub returns : goal.returns
+unfolding opening_world happens ask evaluate opening put_item put group_size group_count may_go released
+returns c = record { around = λ s i now d k e variables answers. refl; below_zero = refl; down = refl; to_the_sign = refl; out = refl }

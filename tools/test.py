@@ -1,5 +1,5 @@
 #!/usr/bin/env python3
-"""Runs all cases of crates/cases/data and all tests of crates/basics_tests, by programs that are compiled without any proof.
+"""Runs all cases of crates/cases/data and all tests of basics_tests and opencl_tests, by programs that are compiled without any proof.
 
 usage: tools/test.py, at the top of the repository; `../kverify test` calls it.
 
@@ -14,7 +14,7 @@ import sys
 import time
 from concurrent.futures import ThreadPoolExecutor, as_completed
 
-CASES, TESTS = "crates/cases", "crates/basics_tests"
+CASES, TESTS = "crates/cases", ("basics_tests", "opencl_tests")
 PROGRAM = os.path.abspath(f"{CASES}/out/unproved/cases")
 AS_TOLD = re.compile(r"^(\S+): (\d+) as told$", re.M)
 RESULT = re.compile(r"^test result: .*?(\d+) passed; (\d+) failed", re.M)
@@ -82,16 +82,17 @@ def others(words, told):
     return Job(" ".join(it for it in words if it in ("cuts", "settle", "replay")), run, 1)
 
 
-def tests():
-    """A job for the tests of basics_tests, which `rt try` compiles and runs."""
-    functions = sum(text_of(f"{TESTS}/src/{it}").count("#[test]") for it in os.listdir(f"{TESTS}/src"))
+def tests_of(crate):
+    """A job for the tests of a crate, which `rt try` compiles and runs."""
+    folder = f"crates/{crate}"
+    functions = sum(text_of(f"{folder}/src/{it}").count("#[test]") for it in os.listdir(f"{folder}/src"))
 
     def run():
-        text, status = ran(["rt", "try", "--test"], TESTS)
+        text, status = ran(["rt", "try", "--test"], folder)
         passed, failed = map(int, (RESULT.findall(text) or [(0, functions)])[-1])
         return (passed if status == 0 or failed else 0), text
 
-    return Job("basics_tests", run, functions)
+    return Job(crate, run, functions)
 
 
 def jobs_of_cases():
@@ -121,16 +122,16 @@ def tell(job, number, of_all, gone):
 
 
 def main():
-    started, of_cases, of_basics = time.monotonic(), jobs_of_cases(), tests()
+    started, of_cases, of_tests = time.monotonic(), jobs_of_cases(), [tests_of(it) for it in TESTS]
     if not shutil.which("rt"):
         sys.exit("kverify: rt, the command of the kit, is not on the PATH")
     with ThreadPoolExecutor(len(os.sched_getaffinity(0))) as pool:
-        begun = [pool.submit(of_basics.done)]
+        begun = [pool.submit(it.done) for it in of_tests]
         begun += [pool.submit(it.done) for it in of_cases] if is_compiled() else []
         for number, it in enumerate(as_completed(begun), 1):
             tell(it.result(), number, len(begun), time.monotonic() - started)
-    passed = sum(it.passed for it in [*of_cases, of_basics])
-    failed = sum(it.failed() for it in [*of_cases, of_basics])
+    passed = sum(it.passed for it in [*of_cases, *of_tests])
+    failed = sum(it.failed() for it in [*of_cases, *of_tests])
     say("nothing is proved by this; the gate, with all proofs, is rt ci")
     print(f"{passed} passed, {failed} failed")
     return 1 if failed else 0

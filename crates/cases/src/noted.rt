@@ -2,11 +2,11 @@
 
 use certificate::Certificate;
 use certificate_notes::notes_of;
+use kernel_names::site_at;
 use loop_bounds::{Bound, cost, turns};
 use obligations::{Lines, Notes};
 use places::{Place, Point, places};
 use std::alloc::{AllocError, Global};
-use syntax::site_at;
 use types::typed::Typed;
 
 /// The number of a point's statement, 0 where there is none.
@@ -142,6 +142,6 @@ pub fn push_placed(
 
 /// Writes the line and the column at which the statement of a number begins; the kernel's, where there is no such statement.
 pub fn push_site(out: &mut String, typed: &Typed, number: Option<u32>) -> Result<(), AllocError> {
-    let site = site_at(typed.kernel(), number);
+    let site = site_at(typed.names(), number);
     writeln!(out, "{}:{}", site.line, site.column)
 }

@@ -1,13 +1,12 @@
 -- What is told of a text holds of each text that says the same.
 use Rattle.reading.specs.Kernels.{Source}
 use Rattle.std.proofs.Common.{◌≡◌, ◌∙◌, ℕ, List, Bool, true, false, Ok, Err, refl, ap, subst, sym}
-use Rattle.syntax.specs.declared.tree.Kernel.{Kernel}
-use Rattle.core_code.specs.declared.tree.Core.{Core}
+use Rattle.types.specs.TypedKernel.{TypedKernel}
 use Rattle.semantics.specs.Conditions.{Conditions}
 use Rattle.certificate_text.specs.Certificate.{BadLine, OtherVersion}
 use Rattle.texts.specs.Surface.{Parameter}
 use Rattle.texts.specs.ConditionsReading.{Lined, conditions_of}
-use Rattle.syntax.specs.View.{kernel as tree_seen}
+use Rattle.kernel_names.specs.View.{names_seen}
 use Rattle.launch_text.specs.Answers as launches
 use Rattle.certificate_text.specs.Reading.{Read, certificate_of}
 use Rattle.certificate_text.specs.NumberedReading.{certificate_of_two, certificate_of_four}
@@ -22,17 +21,17 @@ use Rattle.cert_check.specs.declared.error.CheckError.TheVariants as errors
 
 -- the second text says to one check what the first one says to another
 module _ (wide as_wide : Bool) (one two : List ℕ) (same : text_says wide one ≡ text_says as_wide two) where
-  pub passed_alike : (typed : Kernel × Core) (c : Conditions) → IsPassedBy wide typed c one → IsPassedBy as_wide typed c two
+  pub passed_alike : (typed : TypedKernel) (c : Conditions) → IsPassedBy wide typed c one → IsPassedBy as_wide typed c two
   passed_alike typed c (met, cert, n, read, said, passes) = (met, cert, n, sym same ∙ read, said, passes)
 
   -- and so do the conditions
   module _ (kernel : Source) (conditions : List ℕ) (alike : (ps : List Parameter) → conditions_of wide ps conditions ≡ conditions_of as_wide ps conditions) where
-    read_alike : (typed : Kernel × Core) (found : Lined) → AreRead wide typed found kernel conditions → AreRead as_wide typed found kernel conditions
-    read_alike typed found (is, said) = (is, sym (alike (tree_seen typed.0).parameters) ∙ said)
+    read_alike : (typed : TypedKernel) (found : Lined) → AreRead wide typed found kernel conditions → AreRead as_wide typed found kernel conditions
+    read_alike typed found (is, said) = (is, sym (alike (names_seen typed.0).parameters) ∙ said)
 
     pub refused_alike : (e : CheckError) → RefusesBy wide e kernel conditions one → RefusesBy as_wide e kernel conditions two
     refused_alike (errors.Kernel e) told = told
-    refused_alike (errors.Conditions e) (typed, is, told) = (typed, is, subst (launches.Refuses e) (alike (tree_seen typed.0).parameters) told)
+    refused_alike (errors.Conditions e) (typed, is, told) = (typed, is, subst (launches.Refuses e) (alike (names_seen typed.0).parameters) told)
     refused_alike (errors.Missed site) (typed, found, loop, are_read, missed, at) = (typed, found, loop, read_alike typed found are_read, missed, at)
     refused_alike (errors.Certificate e) (typed, found, are_read, met, told) = (typed, found, read_alike typed found are_read, met, subst (Says (Err e)) same told)
     refused_alike (errors.ManyPaths site) (typed, found, cert, (are_read, met, read), many) = (typed, found, cert, (read_alike typed found are_read, met, sym same ∙ read), many)

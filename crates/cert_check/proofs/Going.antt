@@ -5,7 +5,7 @@ use Rattle.std.specs.Option.{option_map}
 use Rattle.std.proofs.lemmas.Bool.{and_parts}
 use Rattle.semantics.specs.Launch as semantics
 use Rattle.arrivals.specs.Places.{Place}
-use Rattle.texts.specs.Surface as surface
+use Rattle.kernel_names.specs.NameMap.{NameMap}
 use Rattle.certificate_text.specs.Certificate.{Certificate, CertificateFault, Entry}
 use Rattle.certificate_text.specs.Reading.{Read, unless}
 use Rattle.certificate_text.specs.Rules.{all, rises, is_place, place_is_before, is_bound, bound_is_before, is_entry, entry_is_before, is_narrow, is_written, is_any_certificate}
@@ -38,7 +38,7 @@ one_over whole rest behind so e p q =
     p ∙ ap (with_first so) q ∙ ap (λ es. record { entries = es; fault = behind.fault }) (sym (append_assoc so (e ∷ []) behind.entries))
 
 -- what a text tells of a kernel whose names are these
-module _ (is_wide : Bool) (text : List ℕ) (k : semantics.Kernel) (tree : surface.Kernel) (ps : List Place) (f : Certificate) (l : Left) (says : text_says is_wide text ≡ all_gathered f l) where
+module _ (is_wide : Bool) (text : List ℕ) (k : semantics.Kernel) (tree : NameMap) (ps : List Place) (f : Certificate) (l : Left) (says : text_says is_wide text ≡ all_gathered f l) where
   pub told_whole : (names : Chart) (r : Result Told CertError) → names ≡ chart_of k tree → IfOk r (λ _. l.fault ≡ None) → IfOk r (λ t. option_map notes t.notes ≡ noted_by names ps (with_entries l.entries f)) → IfOk r (λ t. AreFlags l.entries t.flags.items) → IfOk r (IsToldOf is_wide k tree ps text)
   told_whole names (Ok t) n h m g =
       let cert = with_entries l.entries f in

@@ -7,11 +7,10 @@ use Rattle.semantics.specs.Launch as semantics
 use Rattle.semantics.specs.Conditions.{Conditions}
 use Rattle.certificate_text.specs.Certificate.{Certificate}
 use Rattle.texts.specs.ConditionsReading.{Lined, meant}
-use Rattle.texts.specs.Surface as surface
-use Rattle.syntax.specs.View.{kernel as tree_seen}
-use Rattle.syntax.specs.declared.tree.Kernel.{Kernel}
+use Rattle.kernel_names.specs.NameMap.{NameMap}
+use Rattle.kernel_names.specs.View.{names_seen}
+use Rattle.types.specs.TypedKernel.{TypedKernel}
 use Rattle.core_code.specs.View.{kernel as core_seen}
-use Rattle.core_code.specs.declared.tree.Core.{Core}
 use Rattle.arrivals.specs.Loops.{unmet}
 use Rattle.facts.specs.declared.error.WalkError.TheVariants as walks
 use Rattle.walk_trees.specs.Trees.{Obligation, leaves}
@@ -49,7 +48,7 @@ pub record Laws : Type 0 where
   pub fit : (k : semantics.Kernel) (c : Conditions) (n : Notes) → HasLimits k c → IsPlain k c → forms_fit domain k c n ≡ true
   pub ranges : (k : semantics.Kernel) (c : Conditions) (n : Notes) (i : ℕ) (o : Obligation) → HasLimits k c → IsPlain k c → is_range k (suc i) ≡ true → o ≡ get_or (obligations domain k c n) i o → o.settled ≡ false → (o.needed ≡ true) ⊎ (n.has_entry (suc i) ≡ true) → (n.has_entry (suc i) ≡ true) × (has_signed k.arguments k.body ≡ true)
 
-module _ (laws : Laws) (k : semantics.Kernel) (tree : surface.Kernel) (c : Conditions) (cert : Certificate) (limits : HasLimits k c) (plain : IsPlain k c) where
+module _ (laws : Laws) (k : semantics.Kernel) (tree : NameMap) (c : Conditions) (cert : Certificate) (limits : HasLimits k c) (plain : IsPlain k c) where
   not_many : (n : Notes) (s : Option ℕ) → IsFirstOfMany s (all_trees domain k c n) → ⊥
   not_many n s m = let t = laws.one_tree k c n limits plain in few_paths s t.0 (all_trees domain k c n) t.1 t.2 m
 
@@ -74,12 +73,12 @@ module _ (laws : Laws) (k : semantics.Kernel) (tree : surface.Kernel) (c : Condi
   tells_plain shows.Memory h = tt
 
 -- what stops the check of a kernel with such limits
-pub stops_plain : (laws : Laws) (is_wide : Bool) (typed : Kernel × Core) (found : Lined) (kernel : Source) (conditions certificate : List ℕ) → HasLimits (core_seen typed.1) (meant found) → AreRead is_wide typed found kernel conditions → (e : CheckError) → checked.StopsBy is_wide typed (meant found) certificate e → OnPlainBy is_wide (Err e) kernel conditions certificate
+pub stops_plain : (laws : Laws) (is_wide : Bool) (typed : TypedKernel) (found : Lined) (kernel : Source) (conditions certificate : List ℕ) → HasLimits (core_seen typed.1) (meant found) → AreRead is_wide typed found kernel conditions → (e : CheckError) → checked.StopsBy is_wide typed (meant found) certificate e → OnPlainBy is_wide (Err e) kernel conditions certificate
 stops_plain laws is_wide typed found k l p limits read (errors.Kernel e) s = tt
 stops_plain laws is_wide typed found k l p limits read (errors.Conditions e) s = tt
 stops_plain laws is_wide typed found k l p limits read (errors.Missed site) (loop, missed, at) = (typed, found, read, λ plain. let m = laws.met (core_seen typed.1) (meant found) plain in cc)
 stops_plain laws is_wide typed found k l p limits read (errors.Certificate e) s = tt
 stops_plain laws is_wide typed found k l p limits read (errors.ManyPaths site) (cert, met, is, (n, s, said, first, at)) =
-    (typed, found, read, λ plain. not_many laws (core_seen typed.1) (tree_seen typed.0) (meant found) cert limits plain (with_entries cert.entries n) s first)
+    (typed, found, read, λ plain. not_many laws (core_seen typed.1) (names_seen typed.0) (meant found) cert limits plain (with_entries cert.entries n) s first)
 stops_plain laws is_wide typed found k l p limits read (errors.Show e) (cert, met, is, shown) =
-    (typed, found, cert, read, is, λ plain. tells_plain laws (core_seen typed.1) (tree_seen typed.0) (meant found) cert limits plain e shown)
+    (typed, found, cert, read, is, λ plain. tells_plain laws (core_seen typed.1) (names_seen typed.0) (meant found) cert limits plain e shown)

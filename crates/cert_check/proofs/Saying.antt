@@ -4,7 +4,7 @@ use Rattle.std.proofs.Math.Path.{fun_ext}
 use Rattle.std.specs.Prelude.{Some}
 use Rattle.semantics.specs.Launch.{Kernel}
 use Rattle.certificate_text.specs.Certificate.{Certificate}
-use Rattle.texts.specs.Surface as surface
+use Rattle.kernel_names.specs.NameMap.{NameMap}
 use Rattle.arrivals.specs.Places.{Place, places}
 use Rattle.obligations.specs.Notes as notes
 use Rattle.obligations.specs.Telling.{TellsOfItems}
@@ -34,9 +34,9 @@ agree_same n m a =
 pub seen_said : (n : Notes) → seen n [] ≡ notes_by (views.notes n) []
 seen_said n = agree_same (seen n []) (notes_by (views.notes n) []) (seen-agrees n [])
 
-pub is_said : (k : Kernel) (tree : surface.Kernel) (cert : Certificate) (ps : List Place) (n : Notes) → ps ≡ places k.body → Some (views.notes n) ≡ noted k tree ps cert → IsSaid k tree cert (seen n [])
+pub is_said : (k : Kernel) (tree : NameMap) (cert : Certificate) (ps : List Place) (n : Notes) → ps ≡ places k.body → Some (views.notes n) ≡ noted k tree ps cert → IsSaid k tree cert (seen n [])
 is_said k tree cert ps n p h = (views.notes n, subst (λ x. noted k tree x cert ≡ Some (views.notes n)) p (sym h), seen_said n)
 
 -- and they speak of items alone
-pub tells_of_items : (k : Kernel) (tree : surface.Kernel) (cert : Certificate) (ps : List Place) (n : Notes) → Some (views.notes n) ≡ noted k tree ps cert → (flags : List Bool) → TellsOfItems (seen n flags)
+pub tells_of_items : (k : Kernel) (tree : NameMap) (cert : Certificate) (ps : List Place) (n : Notes) → Some (views.notes n) ≡ noted k tree ps cert → (flags : List Bool) → TellsOfItems (seen n flags)
 tells_of_items k tree cert ps n h flags = agrees-tells (seen n flags) (notes_by (views.notes n) flags) (seen-agrees n flags) (notes-tell (views.notes n) flags (told k tree ps cert (views.notes n) (sym h)))

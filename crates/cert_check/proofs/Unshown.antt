@@ -5,7 +5,7 @@ use Rattle.std.specs.List.{All}
 use Rattle.semantics.specs.Launch.{Kernel}
 use Rattle.semantics.specs.Conditions.{Conditions}
 use Rattle.certificate_text.specs.Certificate.{Certificate, Entry}
-use Rattle.texts.specs.Surface as surface
+use Rattle.kernel_names.specs.NameMap.{NameMap}
 use Rattle.walk_trees.specs.Shown.{IsShownWithProducts}
 use Rattle.obligations.specs.Notes.{Notes}
 use Rattle.obligations.specs.Telling.{TellsOfItems}
@@ -33,7 +33,7 @@ pub all_is_shown : (k : Kernel) (c : Conditions) (n : Notes) (es : List Entry) �
 all_is_shown k c n es t l s b = (with_entries es n, (record { facts = t.facts; congruences = t.congruences; multiples = t.multiples; rankings = t.rankings }, l, s, b))
 
 -- of a kernel and its names as the code has them
-module _ (k k' : Kernel) (tree : surface.Kernel) (c : Conditions) (n : Notes) (es : List Entry) (names : Chart) (p : k' ≡ k) (r : names ≡ chart_of k tree) where
+module _ (k k' : Kernel) (tree : NameMap) (c : Conditions) (n : Notes) (es : List Entry) (names : Chart) (p : k' ≡ k) (r : names ≡ chart_of k tree) where
   pub passes_named : PassesOf domain k' c (lemma_form names) n es → PassesOf domain k c (stated k tree) n es
   passes_named h = subst (λ x. PassesOf domain k c (lemma_form x) n es) r (subst (λ x. PassesOf domain x c (lemma_form names) n es) p h)
 
@@ -41,7 +41,7 @@ module _ (k k' : Kernel) (tree : surface.Kernel) (c : Conditions) (n : Notes) (e
   tells_named e h = subst (λ x. TellsOf domain k c (lemma_form x) n es e) r (subst (λ x. TellsOf domain x c (lemma_form names) n es e) p h)
 
 -- and of its entries
-module _ (k : Kernel) (tree : surface.Kernel) (c : Conditions) (cert : Certificate) (es : List Entry) (n : Notes) (q : es ≡ cert.entries) (said : IsSaid k tree cert n) where
+module _ (k : Kernel) (tree : NameMap) (c : Conditions) (cert : Certificate) (es : List Entry) (n : Notes) (q : es ≡ cert.entries) (said : IsSaid k tree cert n) where
   pub passes_with : PassesOf domain k c (stated k tree) n es → PassesWith k tree c cert
   passes_with h = (n, said, subst (PassesOf domain k c (stated k tree) n) q h)
 

@@ -5,11 +5,10 @@ use Rattle.semantics.specs.Launch as semantics
 use Rattle.semantics.specs.Conditions.{Conditions}
 use Rattle.certificate_text.specs.Certificate.{Certificate}
 use Rattle.texts.specs.ConditionsReading.{Lined, meant}
-use Rattle.texts.specs.Surface as surface
-use Rattle.syntax.specs.View.{kernel as tree_seen}
-use Rattle.syntax.specs.declared.tree.Kernel.{Kernel}
+use Rattle.kernel_names.specs.NameMap.{NameMap}
+use Rattle.kernel_names.specs.View.{names_seen}
+use Rattle.types.specs.TypedKernel.{TypedKernel}
 use Rattle.core_code.specs.View.{kernel as core_seen}
-use Rattle.core_code.specs.declared.tree.Core.{Core}
 use Rattle.walk_trees.specs.Trees.{Obligation}
 use Rattle.facts.specs.declared.error.WalkError.TheVariants as walks
 use Rattle.plain_kernels.specs.Domains.{domain}
@@ -34,30 +33,30 @@ abbrev pub IsOwnRange : semantics.Kernel → Certificate → (number : ℕ) → 
 IsOwnRange k cert n = is_range k n ≡ true → (has_entry cert.entries n ≡ true) × (has_signed k.arguments k.body ≡ true)
 
 -- the obligation of this number has no entry that fits it and refutes its facts
-abbrev pub IsUnrefuted : semantics.Kernel → surface.Kernel → Conditions → Notes → Certificate → (number : ℕ) → Type 0
-IsUnrefuted k tree c n cert m = (o : Obligation) × IsNumbered 0 (owing domain k c n cert.entries) m o × (is_refuted (said n (stated k tree)) cert.entries m o ≡ false)
+abbrev pub IsUnrefuted : semantics.Kernel → NameMap → Conditions → Notes → Certificate → (number : ℕ) → Type 0
+IsUnrefuted k names c n cert m = (o : Obligation) × IsNumbered 0 (owing domain k c n cert.entries) m o × (is_refuted (said n (stated k names)) cert.entries m o ≡ false)
 
 -- 0: the certificate names what the kernel lacks, or has an entry past the last; a number is that of an obligation that is not shown;
 -- there are over 65,536 obligations; or the stores outnumber the budget. No form leaves i64, and no place has many paths
-abbrev pub TellsPlain : semantics.Kernel → surface.Kernel → Conditions → Certificate → ShowError → Type 0
-TellsPlain k tree c cert (shows.NotShown zero) = (lacks k tree (places k.body) cert ≡ true) ⊎ ((n : Notes) × IsSaid k tree cert n × (is_past cert.entries (length (owing domain k c n cert.entries)) ≡ true))
-TellsPlain k tree c cert (shows.NotShown (suc m)) = (n : Notes) × IsSaid k tree cert n × IsUnrefuted k tree c n cert (suc m) × IsOwnRange k cert (suc m)
-TellsPlain k tree c cert (shows.ManyPaths s) = ⊥
-TellsPlain k tree c cert (shows.Walk walks.TooMany) = (n : Notes) × IsSaid k tree cert n × (65536 < length (owing domain k c n cert.entries))
-TellsPlain k tree c cert (shows.Walk walks.TooLarge) = ⊥
-TellsPlain k tree c cert (shows.Walk walks.Memory) = Unit {0}
-TellsPlain k tree c cert shows.OverBudget = (n : Notes) × IsSaid k tree cert n × (c.budget < steps_of k n)
-TellsPlain k tree c cert shows.Memory = Unit {0}
+abbrev pub TellsPlain : semantics.Kernel → NameMap → Conditions → Certificate → ShowError → Type 0
+TellsPlain k names c cert (shows.NotShown zero) = (lacks k names (places k.body) cert ≡ true) ⊎ ((n : Notes) × IsSaid k names cert n × (is_past cert.entries (length (owing domain k c n cert.entries)) ≡ true))
+TellsPlain k names c cert (shows.NotShown (suc m)) = (n : Notes) × IsSaid k names cert n × IsUnrefuted k names c n cert (suc m) × IsOwnRange k cert (suc m)
+TellsPlain k names c cert (shows.ManyPaths s) = ⊥
+TellsPlain k names c cert (shows.Walk walks.TooMany) = (n : Notes) × IsSaid k names cert n × (65536 < length (owing domain k c n cert.entries))
+TellsPlain k names c cert (shows.Walk walks.TooLarge) = ⊥
+TellsPlain k names c cert (shows.Walk walks.Memory) = Unit {0}
+TellsPlain k names c cert shows.OverBudget = (n : Notes) × IsSaid k names cert n × (c.budget < steps_of k n)
+TellsPlain k names c cert shows.Memory = Unit {0}
 
 -- the texts that come first are read, and the kernel is not plain: no barrier of a plain one is missed, and it has few paths
 abbrev pub IsNotPlain : (is_wide : Bool) → (kernel : Source) (conditions : List ℕ) → Type 0
-IsNotPlain is_wide kernel conditions = (typed : Kernel × Core) × (found : Lined) × AreRead is_wide typed found kernel conditions × (IsPlain (core_seen typed.1) (meant found) → ⊥)
+IsNotPlain is_wide kernel conditions = (typed : TypedKernel) × (found : Lined) × AreRead is_wide typed found kernel conditions × (IsPlain (core_seen typed.1) (meant found) → ⊥)
 
 -- the texts are read, and where the kernel is plain the error tells this of it; the check is the wide one, or it is not
 abbrev pub OnPlainBy : (is_wide : Bool) → Result Accepted CheckError → (kernel : Source) (conditions certificate : List ℕ) → Type 0
 OnPlainBy is_wide (Err (errors.Show e)) kernel conditions certificate =
-    (typed : Kernel × Core) × (found : Lined) × (cert : Certificate) × AreRead is_wide typed found kernel conditions × (text_says is_wide certificate ≡ Ok cert)
-    × (IsPlain (core_seen typed.1) (meant found) → TellsPlain (core_seen typed.1) (tree_seen typed.0) (meant found) cert e)
+    (typed : TypedKernel) × (found : Lined) × (cert : Certificate) × AreRead is_wide typed found kernel conditions × (text_says is_wide certificate ≡ Ok cert)
+    × (IsPlain (core_seen typed.1) (meant found) → TellsPlain (core_seen typed.1) (names_seen typed.0) (meant found) cert e)
 OnPlainBy is_wide (Err (errors.Missed site)) kernel conditions certificate = IsNotPlain is_wide kernel conditions
 OnPlainBy is_wide (Err (errors.ManyPaths site)) kernel conditions certificate = IsNotPlain is_wide kernel conditions
 OnPlainBy is_wide (Err (errors.Kernel e)) kernel conditions certificate = Unit {0}

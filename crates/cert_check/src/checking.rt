@@ -5,7 +5,7 @@ ghost use Rattle.semantics.specs.Conditions as meaning;
 ghost use Rattle.launch.specs.View.{conditions as conditions_seen};
 ghost use Rattle.launch_text.specs.View.{lined};
 ghost use Rattle.texts.specs.ConditionsReading.{conditions_of};
-ghost use Rattle.syntax.specs.View.{kernel as tree_seen};
+ghost use Rattle.kernel_names.specs.View.{names_seen};
 ghost use Rattle.core_code.specs.View.{kernel as core_seen};
 ghost use Rattle.facts.specs.Launching.{are_sizes};
 ghost use Rattle.arrivals.specs.Places as meant;
@@ -30,6 +30,7 @@ use crate::showing::show;
 use certificate_text::laws::either_version_is_read;
 use domain::Elements;
 use entry_check::ShowError;
+use kernel_names::{NameMap, site_at};
 use launch::conditions::Conditions;
 use launch_text::error::LaunchTextError;
 use launch_text::laws::texts_of_version_1_are_read_alike;
@@ -46,8 +47,6 @@ use shown_kernels::laws::what_is_read_and_shown_is_pair_safe_within;
 use shown_kernels::proper::what_is_read_is_proper;
 use shown_kernels::sound::what_is_read_is_orderly;
 use std::alloc::Global;
-use syntax::site_at;
-use syntax::tree::Kernel;
 use types::typed::Typed;
 
 /// The refusal of a kernel that has no places, with its place in the source.
@@ -56,14 +55,14 @@ fn unplaced(typed: &Typed, error: PlaceError) -> CheckError
     ensures { (is_wide : Bool) (c : meaning.Conditions) (certificate : List ℕ) → StopsBy is_wide typed.now c certificate result }
 {
     match error {
-        PlaceError::Missed(number) => CheckError::Missed(site_at(typed.kernel(), Some(number))),
+        PlaceError::Missed(number) => CheckError::Missed(site_at(typed.names(), Some(number))),
         PlaceError::Memory => CheckError::Conditions(LaunchTextError::Memory),
     }
 }
 
 /// The refusal of a kernel that is not shown; where there are too many paths, with the place in the source.
-fn unshown(kernel: &Kernel, error: ShowError) -> CheckError
-    ensures { IsTold (tree_seen kernel.now) error result }
+fn unshown(kernel: &NameMap, error: ShowError) -> CheckError
+    ensures { IsTold (names_seen kernel.now) error result }
 {
     match error {
         ShowError::ManyPaths(statement) => CheckError::ManyPaths(site_at(kernel, statement)),
@@ -87,7 +86,7 @@ fn accept_told(
     requires sizes { are_sizes (core_seen typed.now.1).sizes ≡ true }
     requires places { map place_seen places.now ≡ meant.places (core_seen typed.now.1).body }
     requires met { AreMet typed.now }
-    requires told { IsToldOf is_wide (core_seen typed.now.1) (tree_seen typed.now.0) (map place_seen places.now) certificate.now told }
+    requires told { IsToldOf is_wide (core_seen typed.now.1) (names_seen typed.now.0) (map place_seen places.now) certificate.now told }
     ensures passed { IfOk result (λ _. IsPassedBy is_wide typed.now (conditions_seen conditions.now) certificate.now) }
     ensures shown { IfOk result (λ _. AllIsShown (core_seen typed.now.1) (conditions_seen conditions.now)) }
     ensures stopped { IfErr result (StopsBy is_wide typed.now (conditions_seen conditions.now) certificate.now) }
@@ -110,7 +109,7 @@ fn accept_told(
         &mut entries,
     ) {
         Ok(()) => Ok(()),
-        Err(error) => Err(unshown(typed.kernel(), error)),
+        Err(error) => Err(unshown(typed.names(), error)),
     }
 }
 
@@ -157,7 +156,7 @@ pub fn check_as(
     is_wide: bool,
 ) -> Result<Accepted, CheckError>
     ensures kernel { IfOk result (λ a. read (source kernel.entry) ≡ Ok (kernel_seen (typed_of a))) }
-    ensures conditions { IfOk result (λ a. conditions_of is_wide (tree_seen (typed_of a).0).parameters conditions.now ≡ Ok (lined (kept a))) }
+    ensures conditions { IfOk result (λ a. conditions_of is_wide (names_seen (typed_of a).0).parameters conditions.now ≡ Ok (lined (kept a))) }
     ensures passed { IfOk result (λ a. IsPassedBy is_wide (typed_of a) (conditions_seen (kept a)) certificate.now) }
     ensures refused { TellsBy is_wide result (source kernel.entry) conditions.now certificate.now }
     ensures plain { OnPlainBy is_wide result (source kernel.entry) conditions.now certificate.now }
@@ -206,7 +205,7 @@ pub fn check(
     certificate: &[u8],
 ) -> Result<Accepted, CheckError>
     ensures kernel { IfOk result (λ a. read (text_for Bits32 kernel.now) ≡ Ok (kernel_seen (typed_of a))) }
-    ensures conditions { IfOk result (λ a. conditions_of false (tree_seen (typed_of a).0).parameters conditions.now ≡ Ok (lined (kept a))) }
+    ensures conditions { IfOk result (λ a. conditions_of false (names_seen (typed_of a).0).parameters conditions.now ≡ Ok (lined (kept a))) }
     ensures passed { IfOk result (λ a. IsPassed (typed_of a) (conditions_seen (kept a)) certificate.now) }
     ensures refused { Tells result (text_for Bits32 kernel.now) conditions.now certificate.now }
     ensures plain { OnPlain result (text_for Bits32 kernel.now) conditions.now certificate.now }
@@ -229,7 +228,7 @@ pub fn check_wide(
     certificate: &[u8],
 ) -> Result<Accepted, CheckError>
     ensures kernel { IfOk result (λ a. read (text_for Bits32 kernel.now) ≡ Ok (kernel_seen (typed_of a))) }
-    ensures conditions { IfOk result (λ a. conditions_of true (tree_seen (typed_of a).0).parameters conditions.now ≡ Ok (lined (kept a))) }
+    ensures conditions { IfOk result (λ a. conditions_of true (names_seen (typed_of a).0).parameters conditions.now ≡ Ok (lined (kept a))) }
     ensures passed { IfOk result (λ a. IsPassedBy true (typed_of a) (conditions_seen (kept a)) certificate.now) }
     ensures refused { TellsBy true result (text_for Bits32 kernel.now) conditions.now certificate.now }
     ensures plain { OnPlainBy true result (text_for Bits32 kernel.now) conditions.now certificate.now }

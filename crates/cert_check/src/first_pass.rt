@@ -17,7 +17,7 @@ ghost use Rattle.certificate_notes.specs.NotesView.{notes as notes_seen};
 ghost use Rattle.core_code.specs.View.{kernel as core_seen};
 ghost use Rattle.entry_check.specs.Entries.{AreFlags};
 ghost use Rattle.places.specs.View.{place as place_seen};
-ghost use Rattle.syntax.specs.View.{kernel as tree_seen};
+ghost use Rattle.kernel_names.specs.View.{names_seen as map_seen};
 ghost use Rattle.cert_check.specs.Breadth.{text_says};
 ghost use Rattle.cert_check.specs.Told.{IsToldOf};
 
@@ -144,7 +144,7 @@ pub(crate) fn tell(
     text: &[u8],
     is_wide: bool,
 ) -> Result<Told, CertError>
-    ensures told { IfOk result (IsToldOf is_wide (core_seen typed.now.1) (tree_seen typed.now.0) (map place_seen places.now) text.now) }
+    ensures told { IfOk result (IsToldOf is_wide (core_seen typed.now.1) (map_seen typed.now.0) (map place_seen places.now) text.now) }
     ensures refused { IfErr result (λ e. Refuses e (text_says is_wide text.now)) }
 {
     let names = match names_of(alloc, typed) {

@@ -12,7 +12,7 @@ ghost use Rattle.obligations.specs.View.{seen};
 ghost use Rattle.obligations.specs.Telling.{TellsOfItems};
 ghost use Rattle.places.specs.View.{place as place_seen};
 ghost use Rattle.plain_kernels.specs.Domains.{domain};
-ghost use Rattle.syntax.specs.View.{kernel as tree_seen};
+ghost use Rattle.kernel_names.specs.View.{names_seen};
 ghost use Rattle.entry_check.specs.Entries.{AreFlags};
 ghost use Rattle.entry_check.specs.View.{stated as stated_seen};
 ghost use Rattle.entry_check.specs.Lacking.{PassesOf, TellsOf, steps_of};
@@ -89,9 +89,9 @@ pub(crate) fn show<'n>(
     requires whole { (left entries.old).fault ≡ None }
     requires rises { rises entry_is_before (left entries.old).entries ≡ true }
     requires flags { AreFlags (left entries.old).entries flags.items }
-    ensures passed { IfOk result (λ _. PassesOf domain (core_seen typed.now.1) (conditions_seen conditions.now) (stated (core_seen typed.now.1) (tree_seen typed.now.0)) (seen notes.now []) (left entries.old).entries) }
+    ensures passed { IfOk result (λ _. PassesOf domain (core_seen typed.now.1) (conditions_seen conditions.now) (stated (core_seen typed.now.1) (names_seen typed.now.0)) (seen notes.now []) (left entries.old).entries) }
     ensures shown { IfOk result (λ _. AllIsShown (core_seen typed.now.1) (conditions_seen conditions.now)) }
-    ensures lacks { IfErr result (TellsOf domain (core_seen typed.now.1) (conditions_seen conditions.now) (stated (core_seen typed.now.1) (tree_seen typed.now.0)) (seen notes.now []) (left entries.old).entries) }
+    ensures lacks { IfErr result (TellsOf domain (core_seen typed.now.1) (conditions_seen conditions.now) (stated (core_seen typed.now.1) (names_seen typed.now.0)) (seen notes.now []) (left entries.old).entries) }
 {
     let names = match names_of(alloc, typed) {
         Ok(names) => names,

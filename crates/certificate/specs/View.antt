@@ -1,5 +1,6 @@
 -- The code's certificates as those of the definitions.
 use Rattle.std.specs.Prelude.{map}
+use Rattle.std.specs.Arc.{arc_value}
 use Rattle.std.specs.String.{string_bytes}
 use Rattle.linear.specs.Linear as linear
 use Rattle.certificate_text.specs.Certificate as certificate
@@ -47,7 +48,7 @@ abbrev pub term : Term → linear.Weighted certificate.Name
 term t = record { coefficient = t.coefficient; symbol = name t.name }
 
 abbrev pub form : Form → linear.Form certificate.Name
-form f = record { terms = map term f.terms.items; constant = f.constant }
+form f = record { terms = map term (arc_value f.terms.shared).items; constant = f.constant }
 
 abbrev pub anchor : Anchor → certificate.Anchor
 anchor anchors.KernelEntry = certificate.KernelEntry

@@ -121,7 +121,7 @@ impl FormTable {
         if self.indices.contains_key(spelling.as_str()) {
             return Ok(());
         }
-        let copy = copy_of_form(alloc, form)?;
+        let copy = copy_of_form(form)?;
         self.push(spelling, copy)
     }
 }

@@ -54,8 +54,8 @@ fn multiple_in(alloc: Global, form: &[u8], between: &[u8], of: &[u8]) -> Result<
     if !is(between, "of") {
         return Err(LineError::Bad);
     }
-    let form = constant(Vec::new(alloc), form)?;
-    let of = constant(Vec::new(alloc), of)?;
+    let form = constant(alloc, Vec::new(alloc), form)?;
+    let of = constant(alloc, Vec::new(alloc), of)?;
     Ok(Multiple { of, form })
 }
 

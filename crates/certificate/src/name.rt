@@ -11,7 +11,7 @@ ghost use Rattle.certificate.specs.WordAnswers.{Means};
 
 use crate::line_error::LineError;
 use crate::order::{in_order, term_follows};
-use crate::tree::{Form, Name, Term};
+use crate::tree::{Form, Name, SharedTerms, Term};
 use crate::word::{begins, dimension, integer, is, is_identifier, natural};
 use lines::pieces::Pieces;
 use std::alloc::{AllocError, Global};
@@ -198,12 +198,13 @@ fn goes_on(alloc: Global, sign: &[u8], terms: &[Term], term: &Term) -> Result<bo
 }
 
 /// A form with these terms, of the word of its constant.
-pub fn constant(terms: Vec<Term>, word: &[u8]) -> Result<Form, LineError>
+pub fn constant(alloc: Global, terms: Vec<Term>, word: &[u8]) -> Result<Form, LineError>
     ensures { Means view.form result (forms.constant_of (map view.term terms.items) word.now) }
 {
     let Some(constant) = integer(word) else {
         return Err(LineError::Bad);
     };
+    let terms = SharedTerms::of(alloc, terms)?;
     Ok(Form { terms, constant })
 }
 
@@ -217,7 +218,7 @@ pub fn form(alloc: Global, words: Pieces<'_>) -> Result<Form, LineError>
     while let Some((word, others)) = rest.next() {
         let Some((sign, others)) = others.next() else {
             terms.shrink_to_fit();
-            return constant(terms, word);
+            return constant(alloc, terms, word);
         };
         let term = term(alloc, word)?;
         if !goes_on(alloc, sign, terms.as_slice(), &term)? {

@@ -20,7 +20,7 @@ use std::alloc::Global;
 fn number_in(form: &Form) -> Option<u64>
     ensures { result ≡ reading.number_in (view.form form.now) }
 {
-    if !form.terms.is_empty() || form.constant < 0 {
+    if !form.terms.as_slice().is_empty() || form.constant < 0 {
         return None;
     }
     Some(form.constant as u64)
@@ -51,7 +51,7 @@ fn form_of(
     let Some(form) = allowed_form(table, used, number) else {
         return Err(LineError::Bad);
     };
-    Ok((used.max(number), copy_of_form(alloc, form)?))
+    Ok((used.max(number), copy_of_form(form)?))
 }
 
 fn filled_sort(

@@ -24,12 +24,19 @@ fn push_term(out: &mut String, term: &Term) -> Result<(), AllocError>
 }
 
 #[tactic(auto, using(crate::proofs::Texts::one_more, crate::proofs::Texts::no_more))]
+fn push_terms(out: &mut String, terms: &[Term]) -> Result<(), AllocError>
+    ensures { OnOk result (string_bytes out.new ≡ string_bytes out.old ++ flat_map text.term_text (map view.term terms.now)) }
+{
+    for term in terms {
+        push_term(out, term)?;
+    }
+    Ok(())
+}
+
 pub fn push_form(out: &mut String, form: &Form) -> Result<(), AllocError>
     ensures { OnOk result (string_bytes out.new ≡ string_bytes out.old ++ text.form_text (view.form form.now)) }
 {
-    for term in &form.terms {
-        push_term(out, term)?;
-    }
+    push_terms(out, form.terms.as_slice())?;
     let constant = form.constant;
     write!(out, "{constant}")
 }

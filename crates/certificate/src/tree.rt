@@ -2,6 +2,9 @@
 
 ghost use Rattle.std.specs.Prelude.{◌<◌, ◌^◌};
 
+use std::alloc::{AllocError, Global};
+use std::sync::Arc;
+
 /// One of the three dimensions of a launch.
 #[derive(Clone, Copy, Drop)]
 pub enum Dimension {
@@ -34,10 +37,45 @@ pub struct Term {
     pub name: Name,
 }
 
+/// The terms of a form. Copies of the form share them: a line that names a form of the table takes a few bytes, however many terms that has.
+#[derive(Drop)]
+pub struct SharedTerms {
+    pub(crate) shared: Arc<Vec<Term>>,
+}
+
+impl SharedTerms {
+    ghost use Rattle.std.specs.Prelude.{◌≡◌, IfOk};
+    ghost use Rattle.std.specs.Arc.{arc_value};
+
+    /// These terms.
+    pub fn of(alloc: Global, terms: Vec<Term>) -> Result<SharedTerms, AllocError>
+        ensures { IfOk result (λ t. (arc_value t.shared).items ≡ terms.items) }
+    {
+        let shared = Arc::new(alloc, terms)?;
+        Ok(SharedTerms { shared })
+    }
+
+    /// The same terms once more.
+    pub fn copy(&self) -> Result<SharedTerms, AllocError>
+        ensures { IfOk result (λ t. arc_value t.shared ≡ arc_value self.now.shared) }
+    {
+        let shared = Arc::try_clone(&self.shared)?;
+        Ok(SharedTerms { shared })
+    }
+
+    /// The terms, in their order.
+    pub fn as_slice(&self) -> &[Term]
+        ensures { result.now ≡ (arc_value self.now.shared).items }
+    {
+        let terms: &Vec<Term> = &self.shared;
+        terms.as_slice()
+    }
+}
+
 /// A sum of terms and a constant.
 #[derive(Drop)]
 pub struct Form {
-    pub terms: Vec<Term>,
+    pub terms: SharedTerms,
     pub constant: i64,
 }
 

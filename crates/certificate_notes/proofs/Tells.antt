@@ -9,7 +9,7 @@ use Rattle.obligations.specs.Listing.{is_some}
 use Rattle.obligations.specs.Telling.{tells, all_tell, congruences_tell, multiples_tell, TellsOfItems}
 use Rattle.obligations.specs.View.{same_number}
 use Rattle.certificate_text.specs.Rules.{all}
-use Rattle.texts.specs.Surface as surface
+use Rattle.kernel_names.specs.NameMap.{NameMap}
 use Rattle.certificate_text.specs.Certificate as certificate
 use Rattle.certificate_text.specs.Certificate.{Name, Anchor, KernelEntry, Barrier, Certificate}
 use Rattle.certificate_notes.specs.Scenes.{Scene}
@@ -118,5 +118,5 @@ rankings-told (r ∷ rs) t n = found-ranking (nat_eq r.loop n) r.ranking (noting
 pub notes-tell : (m : Noted) (entries : List Bool) → NotedTells m → TellsOfItems (noting.notes_by m entries)
 notes-tell m entries t = record { facts = facts-told m.places t.places; congruences = congruences-told m.places t.places; multiples = multiples-told m.places t.places; rankings = rankings-told m.rankings t.rankings }
 
-pub told : (k : launch.Kernel) (tree : surface.Kernel) (ps : List places.Place) (cert : Certificate) (m : Noted) → noted k tree ps cert ≡ Some m → NotedTells m
+pub told : (k : launch.Kernel) (tree : NameMap) (ps : List places.Place) (cert : Certificate) (m : Noted) → noted k tree ps cert ≡ Some m → NotedTells m
 told k tree ps cert m e = subst MayNoted e (noted-tells (chart_of k tree) ps cert)

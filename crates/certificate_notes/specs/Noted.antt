@@ -8,7 +8,7 @@ use Rattle.arrivals.specs.Places as places
 use Rattle.obligations.specs.Notes as notes
 use Rattle.certificate_text.specs.Rules.{all}
 use Rattle.texts.specs.Lines.{is_natural}
-use Rattle.texts.specs.Surface as surface
+use Rattle.kernel_names.specs.NameMap.{NameMap}
 use Rattle.certificate_text.specs.Certificate as certificate
 use Rattle.certificate_text.specs.Certificate.{Descent, Down, Halve, Double, EntrySort, Show, Positive, Negative, Quotient, Name, Certificate}
 use Rattle.certificate_notes.specs.Scenes.{Named, Scene}
@@ -123,8 +123,8 @@ of_both c = record { here = c.names; before = c.names; around = loops_among c.sc
 abbrev pub lemma_form : Chart → Form Name → Option Fact
 lemma_form c f = fact c (of_both c) f
 
-abbrev pub stated : launch.Kernel → surface.Kernel → Form Name → Option Fact
-stated k tree f = lemma_form (chart_of k tree) f
+abbrev pub stated : launch.Kernel → NameMap → Form Name → Option Fact
+stated k names f = lemma_form (chart_of k names) f
 
 abbrev pub is_stated : Chart → certificate.Lemma → Bool
 is_stated c l = is_some (lemma_form c l.form)
@@ -177,5 +177,5 @@ noted_all is_wide joins c (Some ls) (Some rs) (Some qs) = Some (record { is_wide
 abbrev pub noted_by : Chart → List places.Place → Certificate → Option Noted
 noted_by c ps cert = cond (all (has_line cert.bounds) c.scenes && all (are_stated c) cert.entries) (noted_all cert.is_wide cert.joins c (each (lines_of c ps) cert.places) (each (ranked_of c) cert.bounds) (quotients_of c cert.entries)) None
 
-abbrev pub noted : launch.Kernel → surface.Kernel → List places.Place → Certificate → Option Noted
-noted k tree ps cert = noted_by (chart_of k tree) ps cert
+abbrev pub noted : launch.Kernel → NameMap → List places.Place → Certificate → Option Noted
+noted k names ps cert = noted_by (chart_of k names) ps cert

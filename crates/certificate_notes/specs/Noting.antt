@@ -5,14 +5,14 @@ use Rattle.facts.specs.Symbols.{Fact, constant}
 use Rattle.arrivals.specs.Places as places
 use Rattle.obligations.specs.Notes as notes
 use Rattle.obligations.specs.View.{same_number, no_ranking}
-use Rattle.texts.specs.Surface as surface
+use Rattle.kernel_names.specs.NameMap.{NameMap}
 use Rattle.certificate_text.specs.Certificate.{Certificate}
 use Rattle.certificate_notes.specs.Noted.{Lines, Ranked, Quoted, Visible, Noted, noted}
 
 -- it names a place, a loop or a symbol that the kernel lacks, says something of the entry, of items that agree at a loop, or twice or
 -- out of order of what agrees, or says of a loop of the kernel nothing
-abbrev pub lacks : launch.Kernel → surface.Kernel → List places.Place → Certificate → Bool
-lacks k tree ps cert = not (is_some (noted k tree ps cert))
+abbrev pub lacks : launch.Kernel → NameMap → List places.Place → Certificate → Bool
+lacks k names ps cert = not (is_some (noted k names ps cert))
 
 abbrev pub is_of : (anchor head : Option ℕ) → Lines → Bool
 is_of a h l = same_number l.anchor a && same_number l.head h

@@ -1,9 +1,11 @@
 -- The variables that are visible at the loops and barriers of a kernel, and the loops around them. A variable is the declaration of a
--- name: its slot says which. Value parameters take the first slots, each private variable the next one where it is declared.
-use Rattle.std.specs.Prelude.{ℕ, Bool, true, false, cond, List, [], ◌∷◌, ◌++◌, length, take}
+-- name: its slot says which. Value parameters take the first slots, private variables those behind them.
+use Rattle.std.specs.Prelude.{ℕ, suc, Bool, true, false, cond, nat_le, nat_lt, ◌&&◌, List, [], ◌∷◌, ◌++◌, length}
 use Rattle.semantics.specs.Launch as launch
 use Rattle.obligations.specs.Roots.{is_kept}
-use Rattle.texts.specs.Surface.{First, FirstDeclares, FirstAssigns, Statement, Declare, DeclareArray, Assign, If, While, For, Barrier, Jump, Block, Statements, none, one, Parameter, Buffer, Value, Kernel}
+use Rattle.texts.specs.Surface.{Parameter, Buffer, Value}
+use Rattle.kernel_names.specs.NameMap as maps
+use Rattle.kernel_names.specs.NameMap.{NameMap, Sort, Turning, Waiting, Other}
 
 pub record Named : Type 0 where
   pub name : List ℕ
@@ -16,82 +18,60 @@ pub record Scene : Type 0 where
   pub here : List Named
   pub around : List ℕ
 
--- where one has come to in a kernel: all variables declared so far, those of them that are visible, the loops around, and the scenes
--- so far
-pub record Gone : Type 0 where
-  pub names : List Named
-  pub here : List Named
-  pub around : List ℕ
-  pub scenes : List Scene
+-- names, each with the next slot
+abbrev pub with_name : (name : List ℕ) → List Named → List Named
+with_name x names = names ++ record { name = x; slot = length names } ∷ []
 
-abbrev pub next_named : (name : List ℕ) → Gone → Named
-next_named x g = record { name = x; slot = length g.names }
+abbrev pub take_argument : Parameter → List Named → List Named
+take_argument (Buffer constant kind site name) names = names
+take_argument (Value kind site name) names = with_name name names
 
--- a variable without a symbol of its own takes its slot
-abbrev pub pass : (name : List ℕ) → Gone → Gone
-pass x g = record { names = g.names ++ next_named x g ∷ []; here = g.here; around = g.around; scenes = g.scenes }
+abbrev pub take_arguments : List Parameter → List Named → List Named
+take_arguments [] names = names
+take_arguments (p ∷ ps) names = take_arguments ps (take_argument p names)
 
-abbrev pub declare : (name : List ℕ) → Gone → Gone
-declare x g = record { names = g.names ++ next_named x g ∷ []; here = g.here ++ next_named x g ∷ []; around = g.around; scenes = g.scenes }
-
-abbrev pub stand : (is_loop : Bool) (number : ℕ) → Gone → Gone
-stand l n g = record { names = g.names; here = g.here; around = g.around; scenes = g.scenes ++ record { number = n; is_loop = l; here = g.here; around = g.around } ∷ [] }
-
-abbrev pub enter : (loop : ℕ) → Gone → Gone
-enter n g = record { names = g.names; here = g.here; around = g.around ++ n ∷ []; scenes = g.scenes }
-
--- at the end of a block as many names are visible as before it, at the end of a loop's body as many loops are around
-abbrev pub leave : (visible : ℕ) → Gone → Gone
-leave n g = record { names = g.names; here = take n g.here; around = g.around; scenes = g.scenes }
-
-abbrev pub leave_loop : (loops : ℕ) → Gone → Gone
-leave_loop n g = record { names = g.names; here = g.here; around = take n g.around; scenes = g.scenes }
-
-abbrev pub begin : First → Gone → Gone
-begin (FirstDeclares d) g = declare d.name g
-begin (FirstAssigns a) g = g
-
-abbrev pub within : (statements : Gone → Gone) → Gone → Gone
-within f g = leave (length g.here) (f g)
-
-abbrev pub turning : (body : Gone → Gone) (loop : ℕ) → Gone → Gone
-turning f n g = leave_loop (length g.around) (within f (enter n (stand true n g)))
-
--- what a `for` declares is visible in its test, its update and its body
-abbrev pub counted : (body : Gone → Gone) (loop : ℕ) → First → Gone → Gone
-counted f n first g = leave (length g.here) (turning f n (begin first g))
-
-abbrev mutual
-  pub go : Statement → Gone → Gone
-  go (Declare d) g = declare d.name g
-  go (DeclareArray n site kind name_site name size) g = g
-  go (Assign a) g = g
-  go (If n site test taken skipped) g = within (go_all skipped) (within (go_all taken) g)
-  go (While n site test body) g = turning (go_all body) n g
-  go (For n site first test update body) g = counted (go_all body) n first g
-  go (Barrier n site flags) g = stand false n g
-  go (Jump n site jump) g = g
-  go (Block n site body) g = within (go_all body) g
-
-  pub go_all : Statements → Gone → Gone
-  go_all none g = g
-  go_all (one s ss) g = go_all ss (go s g)
+abbrev pub take_variables : List maps.Variable → List Named → List Named
+take_variables [] names = names
+take_variables (v ∷ vs) names = take_variables vs (with_name v.name names)
 
 -- a value parameter that nothing assigns has no symbol but its argument
-abbrev pub take_parameter : launch.Kernel → Parameter → Gone → Gone
-take_parameter k (Buffer constant kind site name) g = g
-take_parameter k (Value kind site name) g = cond (is_kept k (length g.names)) (pass name g) (declare name g)
+abbrev pub take_assigned : launch.Kernel → Named → List Named → List Named
+take_assigned k n here = cond (is_kept k n.slot) here (here ++ n ∷ [])
 
-abbrev pub take_parameters : launch.Kernel → List Parameter → Gone → Gone
-take_parameters k [] g = g
-take_parameters k (p ∷ ps) g = take_parameters k ps (take_parameter k p g)
+abbrev pub all_assigned : launch.Kernel → List Named → List Named → List Named
+all_assigned k [] here = here
+all_assigned k (n ∷ ns) here = all_assigned k ns (take_assigned k n here)
 
-abbrev pub nowhere : Gone
-nowhere = record { names = []; here = []; around = []; scenes = [] }
+-- a private variable of a slot, where it is visible in the statement of a number
+abbrev pub take_visible : (number slot : ℕ) → maps.Variable → List Named → List Named
+take_visible n slot v here = cond (nat_le v.first n && nat_le n v.last) (here ++ record { name = v.name; slot = slot } ∷ []) here
 
--- before the first statement, and behind the last one
-abbrev pub opened : launch.Kernel → Kernel → Gone
-opened k tree = take_parameters k tree.parameters nowhere
+abbrev pub all_visible : (number slot : ℕ) → List maps.Variable → List Named → List Named
+all_visible n slot [] here = here
+all_visible n slot (v ∷ vs) here = all_visible n (suc slot) vs (take_visible n slot v here)
 
-abbrev pub gone_over : launch.Kernel → Kernel → Gone
-gone_over k tree = go_all tree.body (opened k tree)
+abbrev pub is_turning : Sort → Bool
+is_turning Turning = true
+is_turning Waiting = false
+is_turning Other = false
+
+-- a loop, where the statement of a number is inside
+abbrev pub take_around : (number : ℕ) → maps.Standing → List ℕ → List ℕ
+take_around n s around = cond (is_turning s.sort && (nat_lt s.number n && nat_le n s.last)) (around ++ s.number ∷ []) around
+
+abbrev pub all_around : (number : ℕ) → List maps.Standing → List ℕ → List ℕ
+all_around n [] around = around
+all_around n (s ∷ ss) around = all_around n ss (take_around n s around)
+
+-- how many value parameters there are, and which of them something assigns
+abbrev pub scene_of : (count : ℕ) → (entry : List Named) → NameMap → (number : ℕ) (is_loop : Bool) → Scene
+scene_of count entry m n l = record { number = n; is_loop = l; here = all_visible n count m.variables entry; around = all_around n m.statements [] }
+
+abbrev pub take_scene : (count : ℕ) → (entry : List Named) → NameMap → (number : ℕ) → Sort → List Scene → List Scene
+take_scene count entry m n Turning scenes = scenes ++ scene_of count entry m n true ∷ []
+take_scene count entry m n Waiting scenes = scenes ++ scene_of count entry m n false ∷ []
+take_scene count entry m n Other scenes = scenes
+
+abbrev pub all_scenes : (count : ℕ) → (entry : List Named) → NameMap → List maps.Standing → List Scene → List Scene
+all_scenes count entry m [] scenes = scenes
+all_scenes count entry m (s ∷ ss) scenes = all_scenes count entry m ss (take_scene count entry m s.number s.sort scenes)

@@ -7,10 +7,11 @@ use Rattle.linear.specs.Exact.{fits, sum, multiple}
 use Rattle.linear.specs.Products.{and_then, times}
 use Rattle.facts.specs.Symbols as symbols
 use Rattle.facts.specs.Symbols.{Fact, constant, number}
-use Rattle.texts.specs.Surface.{Parameter, Buffer, Value, Kernel}
+use Rattle.texts.specs.Surface.{Parameter, Buffer, Value}
+use Rattle.kernel_names.specs.NameMap.{NameMap}
 use Rattle.certificate_text.specs.Certificate as certificate
 use Rattle.certificate_text.specs.Certificate.{Dimension, First, Second, Third, Name, Variable, AtAnchor, Turns, Fresh, Argument, Length, Groups, Group, Local, Product}
-use Rattle.certificate_notes.specs.Scenes.{Named, Scene, opened, gone_over}
+use Rattle.certificate_notes.specs.Scenes.{Named, Scene, take_arguments, take_variables, all_assigned, all_scenes}
 
 -- buffer parameters by their numbers
 abbrev pub take_buffer : Parameter → List Named → List Named
@@ -29,13 +30,19 @@ pub record Chart : Type 0 where
   pub names : List Named
   pub scenes : List Scene
 
-abbrev pub chart_of : launch.Kernel → Kernel → Chart
-chart_of k tree = record {
-  arguments = (opened k tree).names;
-  buffers = take_buffers tree.parameters [];
-  entry = (opened k tree).here;
-  names = (gone_over k tree).names;
-  scenes = (gone_over k tree).scenes;
+abbrev pub arguments_of : NameMap → List Named
+arguments_of m = take_arguments m.parameters []
+
+abbrev pub entry_of : launch.Kernel → NameMap → List Named
+entry_of k m = all_assigned k (arguments_of m) []
+
+abbrev pub chart_of : launch.Kernel → NameMap → Chart
+chart_of k m = record {
+  arguments = arguments_of m;
+  buffers = take_buffers m.parameters [];
+  entry = entry_of k m;
+  names = take_variables m.variables (arguments_of m);
+  scenes = all_scenes (length (arguments_of m)) (entry_of k m) m m.statements [];
 }
 
 -- the variables that stand for what they are now, and for what they were at the anchor; the loops around; whether symbols that are new

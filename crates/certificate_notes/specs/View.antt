@@ -1,9 +1,8 @@
 -- What the code's scenes, charts and sights stand for.
 use Rattle.std.specs.Prelude.{map}
 use Rattle.certificate_notes.specs.Scenes as scenes
-use Rattle.certificate_notes.specs.declared.gone.Named.{Named}
-use Rattle.certificate_notes.specs.declared.gone.Scene.{Scene}
-use Rattle.certificate_notes.specs.declared.gone.Gone.{Gone}
+use Rattle.certificate_notes.specs.declared.scenes.Named.{Named}
+use Rattle.certificate_notes.specs.declared.scenes.Scene.{Scene}
 use Rattle.certificate_notes.specs.Sights as sights
 use Rattle.certificate_notes.specs.declared.chart.Chart.{Chart}
 use Rattle.certificate_notes.specs.declared.sight.Sight.{Sight}
@@ -13,9 +12,6 @@ named n = record { name = n.name.now; slot = n.slot }
 
 abbrev pub scene : Scene → scenes.Scene
 scene s = record { number = s.number; is_loop = s.is_loop; here = map named s.here.items; around = s.around.items }
-
-abbrev pub gone : Gone → scenes.Gone
-gone g = record { names = map named g.names.items; here = map named g.here.items; around = g.around.items; scenes = map scene g.scenes.items }
 
 abbrev pub chart : Chart → sights.Chart
 chart c = record {

@@ -69,6 +69,26 @@ fn with_named(
     with_term(alloc, form, term.coefficient, symbol)
 }
 
+/// A form with more terms, where their names are symbols.
+fn with_terms(
+    alloc: Global,
+    chart: &Chart<'_>,
+    sight: &Sight<'_>,
+    form: Form,
+    terms: &[tree::Term],
+) -> Result<Option<Form>, NamesError>
+    ensures { IfOk result (λ r. option_map form_seen r ≡ sights.added (chart_seen chart.now) (sight_seen sight.now) (map view.term terms.now) (form_seen form)) }
+{
+    let mut sum = form;
+    for term in terms {
+        let Some(more) = with_named(alloc, chart, sight, &sum, term)? else {
+            return Ok(None);
+        };
+        sum = more;
+    }
+    Ok(Some(sum))
+}
+
 /// A form of a certificate in symbols; none where a name means none of those that may stand there.
 pub fn fact(
     alloc: Global,
@@ -78,12 +98,6 @@ pub fn fact(
 ) -> Result<Option<Form>, NamesError>
     ensures { IfOk result (λ r. option_map form_seen r ≡ sights.fact (chart_seen chart.now) (sight_seen sight.now) (view.form form.now)) }
 {
-    let mut sum = Form::constant(alloc, form.constant);
-    for term in form.terms.as_slice() {
-        let Some(more) = with_named(alloc, chart, sight, &sum, term)? else {
-            return Ok(None);
-        };
-        sum = more;
-    }
-    Ok(Some(sum))
+    let constant = Form::constant(alloc, form.constant);
+    with_terms(alloc, chart, sight, constant, form.terms.as_slice())
 }

@@ -4,7 +4,7 @@ ghost use Rattle.std.specs.Prelude.{◌≡◌, true, false, [], ◌∷◌, ◌++
 ghost use Rattle.std.specs.Option.{option_map};
 ghost use Rattle.semantics.specs.Launch as launch;
 ghost use Rattle.arrivals.specs.Places.{Place as PlaceMeant};
-ghost use Rattle.texts.specs.Surface as surface;
+ghost use Rattle.kernel_names.specs.NameMap.{NameMap};
 ghost use Rattle.certificate_text.specs.Certificate as certificates;
 ghost use Rattle.certificate.specs.EntriesLeft.{with_entries};
 ghost use Rattle.certificate.specs.View as view;
@@ -89,9 +89,9 @@ impl Gathering {
     /// The notes of all that was taken; none where the kernel lacks what is named there.
     pub fn notes(self) -> Option<Notes>
         ensures all { option_map notes_seen result ≡ gathered self }
-        ensures lacks { (k : launch.Kernel) (tree : surface.Kernel) (ps : List PlaceMeant) (cert : certificates.Certificate) → gathered self ≡ noted.noted k tree ps cert → MatchOption result (noting.lacks k tree ps cert ≡ true) (λ _. noting.lacks k tree ps cert ≡ false) }
-        ensures notes { (k : launch.Kernel) (tree : surface.Kernel) (ps : List PlaceMeant) (cert : certificates.Certificate) → gathered self ≡ noted.noted k tree ps cert → IfSome result (λ n. (entries : List Bool) (m : Noted) → noted.noted k tree ps cert ≡ Some m → Agrees (seen n entries) (noting.notes_by m entries)) }
-        ensures items { (k : launch.Kernel) (tree : surface.Kernel) (ps : List PlaceMeant) (cert : certificates.Certificate) → gathered self ≡ noted.noted k tree ps cert → IfSome result (λ n. (entries : List Bool) → TellsOfItems (seen n entries)) }
+        ensures lacks { (k : launch.Kernel) (names : NameMap) (ps : List PlaceMeant) (cert : certificates.Certificate) → gathered self ≡ noted.noted k names ps cert → MatchOption result (noting.lacks k names ps cert ≡ true) (λ _. noting.lacks k names ps cert ≡ false) }
+        ensures notes { (k : launch.Kernel) (names : NameMap) (ps : List PlaceMeant) (cert : certificates.Certificate) → gathered self ≡ noted.noted k names ps cert → IfSome result (λ n. (entries : List Bool) (m : Noted) → noted.noted k names ps cert ≡ Some m → Agrees (seen n entries) (noting.notes_by m entries)) }
+        ensures items { (k : launch.Kernel) (names : NameMap) (ps : List PlaceMeant) (cert : certificates.Certificate) → gathered self ≡ noted.noted k names ps cert → IfSome result (λ n. (entries : List Bool) → TellsOfItems (seen n entries)) }
     {
         self.notes
     }

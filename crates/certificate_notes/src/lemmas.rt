@@ -6,7 +6,7 @@ ghost use Rattle.linear.specs.Forms.{form as form_seen};
 ghost use Rattle.certificate.specs.View as view;
 ghost use Rattle.certificate_text.specs.Rules.{all};
 ghost use Rattle.core_code.specs.View.{kernel as core_seen};
-ghost use Rattle.syntax.specs.View.{kernel as tree_seen};
+ghost use Rattle.kernel_names.specs.View.{names_seen as map_seen};
 ghost use Rattle.certificate_notes.specs.Noted as noted;
 ghost use Rattle.certificate_notes.specs.Sights.{chart_of};
 ghost use Rattle.certificate_notes.specs.NamesView.{names as names_seen};
@@ -25,9 +25,9 @@ use types::typed::Typed;
 
 /// All that lemmas may name of a kernel.
 pub fn names_of(alloc: Global, kernel: &Typed) -> Result<Names<'_>, NamesError>
-    ensures { IfOk result (λ n. names_seen n ≡ chart_of (core_seen kernel.now.1) (tree_seen kernel.now.0)) }
+    ensures { IfOk result (λ n. names_seen n ≡ chart_of (core_seen kernel.now.1) (map_seen kernel.now.0)) }
 {
-    let chart = chart_of(alloc, kernel.core(), kernel.kernel())?;
+    let chart = chart_of(alloc, kernel.core(), kernel.names())?;
     let loops = loops_among(alloc, chart.scenes.as_slice())?;
     Ok(Names { chart, loops })
 }

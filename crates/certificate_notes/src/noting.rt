@@ -2,7 +2,7 @@
 
 ghost use Rattle.std.specs.Prelude.{◌≡◌, Bool, true, false, List, [], Some, IfOk, IfSome, MatchOption, OnOk, map};
 ghost use Rattle.std.specs.Option.{option_map};
-ghost use Rattle.syntax.specs.View.{kernel as tree_seen};
+ghost use Rattle.kernel_names.specs.View.{names_seen as map_seen};
 ghost use Rattle.core_code.specs.View.{kernel as core_seen};
 ghost use Rattle.arrivals.specs.Places.{Place as PlaceMeant};
 ghost use Rattle.certificate_text.specs.Certificate as certificates;
@@ -75,10 +75,10 @@ pub fn notes_of(
     places: &[Place<'_>],
     certificate: &Certificate,
 ) -> Result<Option<Notes>, NamesError>
-    ensures lacks { IfOk result (λ r. MatchOption r (noting.lacks (core_seen kernel.now.1) (tree_seen kernel.now.0) (map place_seen places.now) (certificate_seen certificate.now) ≡ true) (λ _. noting.lacks (core_seen kernel.now.1) (tree_seen kernel.now.0) (map place_seen places.now) (certificate_seen certificate.now) ≡ false)) }
-    ensures notes { IfOk result (λ r. IfSome r (λ n. (entries : List Bool) (m : Noted) → noted.noted (core_seen kernel.now.1) (tree_seen kernel.now.0) (map place_seen places.now) (certificate_seen certificate.now) ≡ Some m → Agrees (seen n entries) (noting.notes_by m entries))) }
+    ensures lacks { IfOk result (λ r. MatchOption r (noting.lacks (core_seen kernel.now.1) (map_seen kernel.now.0) (map place_seen places.now) (certificate_seen certificate.now) ≡ true) (λ _. noting.lacks (core_seen kernel.now.1) (map_seen kernel.now.0) (map place_seen places.now) (certificate_seen certificate.now) ≡ false)) }
+    ensures notes { IfOk result (λ r. IfSome r (λ n. (entries : List Bool) (m : Noted) → noted.noted (core_seen kernel.now.1) (map_seen kernel.now.0) (map place_seen places.now) (certificate_seen certificate.now) ≡ Some m → Agrees (seen n entries) (noting.notes_by m entries))) }
     ensures items { IfOk result (λ r. IfSome r (λ n. (entries : List Bool) → TellsOfItems (seen n entries))) }
-    ensures all { IfOk result (λ r. option_map notes_seen r ≡ noted.noted (core_seen kernel.now.1) (tree_seen kernel.now.0) (map place_seen places.now) (certificate_seen certificate.now)) }
+    ensures all { IfOk result (λ r. option_map notes_seen r ≡ noted.noted (core_seen kernel.now.1) (map_seen kernel.now.0) (map place_seen places.now) (certificate_seen certificate.now)) }
 {
     let names = names_of(alloc, kernel)?;
     noted_by(alloc, &names, places, certificate)

@@ -15,7 +15,7 @@ ghost use Rattle.certificate_notes.specs.NotesView.{station as station_seen, lin
 use crate::chart::Chart;
 use crate::error::NamesError;
 use crate::forms::fact;
-use crate::gone::Named;
+use crate::scenes::Named;
 use crate::sight::{Sight, slot_of};
 use crate::spots::{anchor_number, is_place};
 use crate::station::{Station, station_of};

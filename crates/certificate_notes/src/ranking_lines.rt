@@ -13,7 +13,7 @@ ghost use Rattle.certificate_notes.specs.NotesView.{ranked as ranked_seen};
 use crate::chart::Chart;
 use crate::error::NamesError;
 use crate::forms::fact;
-use crate::gone::Scene;
+use crate::scenes::Scene;
 use crate::station::{in_test, loop_at};
 use certificate::tree;
 use certificate::tree::Descent;

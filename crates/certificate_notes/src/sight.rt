@@ -12,7 +12,7 @@ ghost use Rattle.certificate_notes.specs.View.{chart as chart_seen, sight as sig
 
 use crate::chart::Chart;
 use crate::error::NamesError;
-use crate::gone::Named;
+use crate::scenes::Named;
 use certificate::tree::{Dimension, Name};
 use facts::{Family, Side};
 use linear::{Form, Symbol, Term};

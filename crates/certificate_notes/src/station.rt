@@ -8,7 +8,7 @@ ghost use Rattle.certificate_notes.specs.View.{chart as chart_seen, scene as sce
 ghost use Rattle.certificate_notes.specs.NotesView.{station as station_seen};
 
 use crate::chart::Chart;
-use crate::gone::{Named, Scene};
+use crate::scenes::{Named, Scene};
 use crate::sight::Sight;
 use certificate::tree::{Anchor, Spot};
 

@@ -7,7 +7,7 @@ ghost use Rattle.certificate_notes.specs.NotesView.{visible as visible_seen};
 
 use crate::chart::Chart;
 use crate::error::NamesError;
-use crate::gone::{Named, Scene};
+use crate::scenes::{Named, Scene};
 use obligations::Visible;
 use std::alloc::Global;
 

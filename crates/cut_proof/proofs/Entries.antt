@@ -1,5 +1,5 @@
 -- The code's lists of forms, entry by entry.
-use Rattle.std.proofs.Common.{◌≡◌, ℕ, zero, suc, ◌+◌, ◌<◌, ◌≤◌, ◌==◌, Bool, true, false, ◌&&◌, List, [], ◌∷◌, ◌++◌, length, map, drop, drop-cons, add-one, get_or, arith, refl, ap, sym, ◌∙◌}
+use Rattle.std.proofs.Common.{◌≡◌, ℕ, zero, suc, ◌+◌, ◌<◌, ◌≤◌, ◌==◌, Bool, true, false, ◌&&◌, List, [], ◌∷◌, length, map, drop, get_or, arith, refl, ap, sym, ◌∙◌}
 use Rattle.std.specs.Prelude.{None, Some, ℤ}
 use Rattle.std.specs.Int.{is_negative}
 use Rattle.std.proofs.lemmas.Bool.Decides.{nat_tests}
@@ -8,8 +8,7 @@ use Rattle.linear.specs.declared.form.Form.{Form}
 use Rattle.linear.specs.declared.term.Term.{Term}
 use Rattle.linear.specs.Terms.{terms}
 use Rattle.linear.specs.Forms.{form, forms}
-use Rattle.linear.proofs.FormLists.{forms-append}
-use Rattle.cut_proof.specs.Derivations.{Forms, entry, is_none, is_contradiction, if_made, line_form, refutes_from, refutes_of}
+use Rattle.cut_proof.specs.Derivations.{Forms, entry, is_none, refutes_from, refutes_of}
 use Rattle.cut_proof.specs.View.{line}
 use Rattle.cut_proof.specs.declared.Line.{Line}
 
@@ -39,15 +38,6 @@ alone ts us r k b e f g h = rw (terms_end ts us e ∙ sym f ∙ g) (ap is_negati
 
 pub not_alone : (ts : List Term) (us : List (semantics.Weighted ℕ)) (k : ℤ) (b : Bool) → terms ts ≡ us → b ≡ (length ts == 0) → b ≡ false → b ≡ (is_none us && is_negative k)
 not_alone ts us k b e f g = rw (terms_end ts us e ∙ sym f ∙ g) g
-
--- one line more
-pub next_line : (facts : Forms) (made made' : List Form) (answer answer' all : Bool) (i : ℕ) (ls : List Line) (l : Line) (f : Form) → i < length ls → l ≡ get_or ls i l → Some (form f) ≡ line_form facts (forms made) (line l) → made' ≡ made ++ f ∷ [] → answer' ≡ is_contradiction (form f) → refutes_from facts (forms made) answer (map line (drop i ls)) ≡ all → refutes_from facts (forms made') answer' (map line (drop (i + 1) ls)) ≡ all
-next_line facts made made' answer answer' all i ls l f h g e m c k =
-    let d : drop i ls ≡ l ∷ drop (i + 1) ls = drop-cons ls i l h ∙ rw (sym g, add-one) refl in
-    let rest = map line (drop (i + 1) ls) in
-    let one = ap (λ ms. refutes_from facts ms answer' rest) (ap forms m ∙ forms-append made (f ∷ [])) ∙ ap (λ b. refutes_from facts (forms made ++ form f ∷ []) b rest) c in
-    let two = ap (λ o. if_made o (λ g. refutes_from facts (forms made ++ g ∷ []) (is_contradiction g) rest)) e in
-    one ∙ two ∙ ap (λ l. refutes_from facts (forms made) answer (map line l)) (sym d) ∙ k
 
 pub no_more : {A : Type 0} (ls : List A) (i : ℕ) → length ls ≤ i → drop i ls ≡ []
 no_more [] zero h = refl

@@ -1,2 +1,3 @@
 pub mod Derivations
 pub mod View
+pub mod Checked

@@ -14,7 +14,7 @@ ghost use Rattle.linear.specs.Linear.{IsImpossible};
 ghost use Rattle.linear.specs.Exact.{sum, multiple};
 ghost use Rattle.linear.specs.Products.{IsImpossibleWithProducts, within_i64, denial};
 ghost use Rattle.linear.specs.Forms.{form, forms};
-ghost use Rattle.cut_proof.specs.View.{seen, line as line_seen, lemma as lemma_seen};
+ghost use Rattle.cut_proof.specs.View.{seen, line as line_seen, lemma as lemma_seen, made_form, made_seen};
 ghost use Rattle.cut_proof.specs.Derivations.{entry, add_part, sum_line, divided_line, product_line, line_form, is_contradiction, refutes_of, refutes_with, are_without_products};
 
 use linear::{Fact, Form, LinearError};
@@ -46,6 +46,75 @@ pub struct Lemma {
 pub struct Derivation {
     pub lemmas: Vec<Lemma>,
     pub lines: Vec<Line>,
+}
+
+/// What a line of a derivation has made: the fact that it names, or a form of its own.
+#[derive(Drop)]
+pub enum Made<'a> {
+    Fact(&'a Form),
+    Own(Box<Form>),
+}
+
+/// The lines of a derivation, checked one by one, against facts and those that are known beside them. Of a line that names a fact no more is
+/// kept than where that stands.
+#[derive(Drop)]
+pub struct Checking<'a> {
+    facts: &'a [Fact],
+    known: &'a [Form],
+    made: Vec<Made<'a>>,
+    refuted: bool,
+}
+
+impl<'a> Checking<'a> {
+    ghost use Rattle.std.specs.Prelude.{◌≡◌, ◌++◌, [], false, IfOk};
+    ghost use Rattle.linear.specs.Forms.{forms};
+    ghost use Rattle.cut_proof.specs.Derivations.{Line as LineMeant};
+    ghost use Rattle.cut_proof.specs.Checked.{Adds, answer, facts_of, forms_made};
+    ghost use Rattle.cut_proof.specs.View.{line as line_seen};
+
+    /// Before the first line.
+    pub fn of(alloc: Global, facts: &'a [Fact], known: &'a [Form]) -> Checking<'a>
+        ensures facts { facts_of result ≡ forms facts.now ++ forms known.now }
+        ensures made { forms_made result ≡ [] }
+        ensures answer { answer result ≡ false }
+    {
+        Checking {
+            facts,
+            known,
+            made: Vec::new(alloc),
+            refuted: false,
+        }
+    }
+
+    /// Adds a line; false where it may not stand there.
+    pub fn add(&mut self, alloc: Global, line: &Line) -> Result<bool, AllocError>
+        ensures { IfOk result (Adds self.old (line_seen line.now) self.new) }
+    {
+        let made = make_line(alloc, self.facts, self.known, self.made.as_slice(), line)?;
+        let Some(made) = made else {
+            return Ok(false);
+        };
+        self.refuted = contradicts(form_of(&made));
+        self.made.push(made)?;
+        Ok(true)
+    }
+
+    /// The last line is a negative constant.
+    pub fn is_refuted(&self) -> bool
+        ensures { result ≡ answer self.now }
+    {
+        self.refuted
+    }
+}
+
+/// The form that a line has made.
+fn form_of<'m>(made: &'m Made<'_>) -> &'m Form
+    ensures { form result.now ≡ made_form made.now }
+{
+    match made {
+        Made::Fact(form) => form,
+        Made::Own(form) => form,
+    }
 }
 
 /// Whether the derivation refutes the facts: each lemma is shown, each line is as it says, no number of it leaves `i64`,
@@ -103,49 +172,51 @@ fn are_refuted(
 ) -> Result<bool, AllocError>
     ensures { IfOk result (λ b. b ≡ refutes_of (forms facts.now ++ forms known.now) (map line_seen lines.now)) }
 {
-    let mut made: Vec<Form> = Vec::new(alloc);
-    let mut refuted = false;
+    let mut checking = Checking::of(alloc, facts, known);
     for line in lines {
-        let Some(form) = make_line(alloc, facts, known, made.as_slice(), line)? else {
+        if !checking.add(alloc, line)? {
             return Ok(false);
-        };
-        refuted = contradicts(&form);
-        made.push(form)?;
+        }
     }
-    Ok(refuted)
+    Ok(checking.is_refuted())
 }
 
-/// The form that a line of a derivation says to be at least 0; none where the line may not stand there.
-fn make_line(
+/// What a line of a derivation says to be at least 0; none where the line may not stand there.
+fn make_line<'a>(
     alloc: Global,
-    facts: &[Fact],
-    known: &[Form],
-    made: &[Form],
+    facts: &'a [Fact],
+    known: &'a [Form],
+    made: &[Made<'a>],
     line: &Line,
-) -> Result<Option<Form>, AllocError>
-    ensures { IfOk result (λ r. seen r ≡ line_form (forms facts.now ++ forms known.now) (forms made.now) (line_seen line.now)) }
+) -> Result<Option<Made<'a>>, AllocError>
+    ensures { IfOk result (λ r. made_seen r ≡ line_form (forms facts.now ++ forms known.now) (map made_form made.now) (line_seen line.now)) }
 {
     match line {
-        Line::Given(number) => make_given(alloc, facts, known, *number),
-        Line::Sum(parts) => make_sum(alloc, made, parts.as_slice()),
-        Line::Div(divisor, number) => make_quotient(alloc, made, *divisor, *number),
-        Line::Product(first, second) => make_product(alloc, made, *first, *second),
+        Line::Given(number) => Ok(make_given(facts, known, *number)),
+        Line::Sum(parts) => own(alloc, make_sum(alloc, made, parts.as_slice())?),
+        Line::Div(divisor, number) => own(alloc, make_quotient(alloc, made, *divisor, *number)?),
+        Line::Product(first, second) => own(alloc, make_product(alloc, made, *first, *second)?),
     }
 }
 
-fn make_given(
-    alloc: Global,
-    facts: &[Fact],
-    known: &[Form],
-    number: u32,
-) -> Result<Option<Form>, AllocError>
-    ensures { IfOk result (λ r. seen r ≡ entry (forms facts.now ++ forms known.now) number) }
+fn make_given<'a>(facts: &'a [Fact], known: &'a [Form], number: u32) -> Option<Made<'a>>
+    ensures { made_seen result ≡ entry (forms facts.now ++ forms known.now) number }
 {
     let Some(fact) = given(facts, known, number) else {
+        return None;
+    };
+    Some(Made::Fact(fact))
+}
+
+/// A form of a line's own, where there is one.
+fn own<'a>(alloc: Global, form: Option<Form>) -> Result<Option<Made<'a>>, AllocError>
+    ensures { IfOk result (λ r. made_seen r ≡ seen form) }
+{
+    let Some(form) = form else {
         return Ok(None);
     };
-    let form = fact.copy(alloc)?;
-    Ok(Some(form))
+    let form = Box::new(alloc, form)?;
+    Ok(Some(Made::Own(form)))
 }
 
 /// The fact of a number, counted from 1; those that are known come behind the facts.
@@ -159,8 +230,12 @@ fn given<'a>(facts: &'a [Fact], known: &'a [Form], number: u32) -> Option<&'a Fo
     named(known, number - count as u32)
 }
 
-fn make_sum(alloc: Global, made: &[Form], parts: &[(i64, u32)]) -> Result<Option<Form>, AllocError>
-    ensures { IfOk result (λ r. seen r ≡ sum_line (forms made.now) parts.now) }
+fn make_sum(
+    alloc: Global,
+    made: &[Made<'_>],
+    parts: &[(i64, u32)],
+) -> Result<Option<Form>, AllocError>
+    ensures { IfOk result (λ r. seen r ≡ sum_line (map made_form made.now) parts.now) }
 {
     if parts.is_empty() {
         return Ok(None);
@@ -183,16 +258,16 @@ fn make_sum(alloc: Global, made: &[Form], parts: &[(i64, u32)]) -> Result<Option
 /// The sum with so many times an earlier line; none where the weight is below 1, the line is missing, or a number is too large.
 fn make_part(
     alloc: Global,
-    made: &[Form],
+    made: &[Made<'_>],
     total: &Form,
     part: (i64, u32),
 ) -> Result<Option<Form>, AllocError>
-    ensures { IfOk result (λ r. seen r ≡ add_part (forms made.now) (form total.now) part) }
+    ensures { IfOk result (λ r. seen r ≡ add_part (map made_form made.now) (form total.now) part) }
 {
     if part.0 < 1 {
         return Ok(None);
     }
-    let Some(line) = named(made, part.1) else {
+    let Some(line) = line_named(made, part.1) else {
         return Ok(None);
     };
     let Some(scaled) = settled_multiple(alloc, line, part.0)? else {
@@ -203,16 +278,16 @@ fn make_part(
 
 fn make_quotient(
     alloc: Global,
-    made: &[Form],
+    made: &[Made<'_>],
     divisor: i64,
     number: u32,
 ) -> Result<Option<Form>, AllocError>
-    ensures { IfOk result (λ r. seen r ≡ divided_line (forms made.now) divisor number) }
+    ensures { IfOk result (λ r. seen r ≡ divided_line (map made_form made.now) divisor number) }
 {
     if divisor < 1 {
         return Ok(None);
     }
-    let Some(line) = named(made, number) else {
+    let Some(line) = line_named(made, number) else {
         return Ok(None);
     };
     line.divided(alloc, divisor)
@@ -220,16 +295,16 @@ fn make_quotient(
 
 fn make_product(
     alloc: Global,
-    made: &[Form],
+    made: &[Made<'_>],
     first: u32,
     second: u32,
 ) -> Result<Option<Form>, AllocError>
-    ensures { IfOk result (λ r. seen r ≡ product_line (forms made.now) first second) }
+    ensures { IfOk result (λ r. seen r ≡ product_line (map made_form made.now) first second) }
 {
-    let Some(left) = named(made, first) else {
+    let Some(left) = line_named(made, first) else {
         return Ok(None);
     };
-    let Some(right) = named(made, second) else {
+    let Some(right) = line_named(made, second) else {
         return Ok(None);
     };
     left.product(alloc, right)
@@ -265,6 +340,16 @@ fn named(made: &[Form], number: u32) -> Option<&Form>
         return None;
     }
     Some(&made[number as usize - 1])
+}
+
+/// The form of the line of a number, counted from 1.
+fn line_named<'m>(made: &'m [Made<'_>], number: u32) -> Option<&'m Form>
+    ensures { MatchOption result (entry (map made_form made.now) number ≡ None) (λ f. entry (map made_form made.now) number ≡ Some (form f.now)) }
+{
+    if number == 0 || made.len() < number as usize {
+        return None;
+    }
+    Some(form_of(&made[number as usize - 1]))
 }
 
 /// Whether a form is a negative constant.

@@ -5,11 +5,11 @@ use Rattle.std.proofs.lemmas.List.{map-append}
 use Rattle.semantics.specs.Setup.{Setup}
 use Rattle.semantics.specs.World as meaning
 use Rattle.semantics.specs.World.{run, opening_world}
-use Rattle.texts.specs.Surface.{Kernel}
 use Rattle.machine.specs.Worlds.{setup, world, event, IsSound, Answers}
 use Rattle.machine.specs.declared.world.World.{World}
 use Rattle.machine.specs.declared.world.Event.{Event}
 use Rattle.machine.specs.declared.world.Applied.{Applied}
+use Rattle.kernel_names.specs.NameMap.{NameMap}
 use Rattle.diagnostics.specs.Possible.{was_possible}
 use Rattle.diagnostics.proofs.ReplayRuns.{run_more, happened, not_possible}
 use Rattle.diagnostics.specs.Confirming.{IsConfirmed}
@@ -37,7 +37,7 @@ none_more w u events e a h sound same p answer =
           h.run ∙ ap Some (sym (not_possible s (event e) (world w) (world u) a p answer).1));
     }
 
-pub confirms : (s : Setup) (k : Kernel) (w : meaning.World) (x : Sighting) (events : List Event) → run s (map event events) (opening_world s) ≡ Some w → IsSighting s k w x → IsConfirmed s k (finding_of x events)
+pub confirms : (s : Setup) (k : NameMap) (w : meaning.World) (x : Sighting) (events : List Event) → run s (map event events) (opening_world s) ≡ Some w → IsSighting s k w x → IsConfirmed s k (finding_of x events)
 confirms s k w (variants.Fault f v) events h seen = (w, h, seen)
 confirms s k w (variants.Size v) events h seen = (w, h, seen)
 confirms s k w (variants.Race v u) events h seen = (w, h, seen)

@@ -4,7 +4,7 @@ ghost use Rattle.std.specs.Prelude.{◌≡◌, true, IfOk, IfSome, OnOk};
 ghost use Rattle.semantics.specs.Launch.{Fits};
 ghost use Rattle.core_code.specs.View.{kernel as core_seen};
 ghost use Rattle.launch.specs.View.{launch as launch_seen};
-ghost use Rattle.syntax.specs.View.{kernel as tree_seen};
+ghost use Rattle.kernel_names.specs.View.{names_seen};
 ghost use Rattle.work_item.specs.Proper.{is_proper, are_sizes};
 ghost use Rattle.work_item.specs.View.{setup_of, AreFew};
 ghost use Rattle.machine.specs.Worlds.{setup, world as world_seen};
@@ -61,7 +61,7 @@ fn go_on(
     requires { IsAfter world.old events.old.items }
     ensures after { OnOk result (IsAfter world.new events.new.items) }
     ensures setup { OnOk result (setup world.new ≡ setup world.old) }
-    ensures seen { IfOk result (λ o. IfSome o (IsSighting (setup world.new) (tree_seen typed.now.0) (world_seen world.new))) }
+    ensures seen { IfOk result (λ o. IfSome o (IsSighting (setup world.new) (names_seen typed.now.0) (world_seen world.new))) }
 {
     if !happen(world, events, event)? {
         return Ok(None);
@@ -81,7 +81,7 @@ fn play(
     requires { IsAfter world.old events.old.items }
     ensures after { OnOk result (IsAfter world.new events.new.items) }
     ensures setup { OnOk result (setup world.new ≡ setup world.old) }
-    ensures seen { IfOk result (λ o. IfSome o (IsSighting (setup world.new) (tree_seen typed.now.0) (world_seen world.new))) }
+    ensures seen { IfOk result (λ o. IfSome o (IsSighting (setup world.new) (names_seen typed.now.0) (world_seen world.new))) }
 {
     let mut turn = Turn::first(world);
     for _event in 0..EVENTS {
@@ -150,7 +150,7 @@ fn has_few_items(core: &Core, launch: &Launch) -> bool
 pub fn confirm(alloc: Global, typed: &Typed, launch: &Launch) -> Result<Option<Finding>, AllocError>
     requires proper { is_proper (core_seen typed.now.1) ≡ true }
     requires fits { Fits (core_seen typed.now.1) (launch_seen launch.now) }
-    ensures shown { IfOk result (λ o. IfSome o (λ f. IsConfirmed (setup_of typed.now.1 launch.now) (tree_seen typed.now.0) (finding_seen f))) }
+    ensures shown { IfOk result (λ o. IfSome o (λ f. IsConfirmed (setup_of typed.now.1 launch.now) (names_seen typed.now.0) (finding_seen f))) }
     ensures alike { IfOk result (λ o. IfSome o (λ _. decides_nothing (core_seen typed.now.1) ≡ true)) }
 {
     if !has_few_items(typed.core(), launch) {

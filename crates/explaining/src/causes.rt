@@ -1,6 +1,7 @@
 //! Possible findings of one cause: those that point at one statement, or depend on one value of which little is known.
 
 use crate::hints::{Known, hints_of, order_of};
+use crate::outlook::Outlook;
 use crate::parts::terms_of;
 use crate::vague::Vague;
 use core_code::tree::{Site, Statement, Term};
@@ -97,7 +98,7 @@ impl Cause {
         Ok(cause)
     }
 
-    /// The cause of what a replay confirms is not looked for.
+    /// The cause of what a replay confirms, or of what a line of the conditions shows, is not looked for.
     fn none(alloc: Global) -> Cause {
         Cause {
             keys: Vec::new(alloc),
@@ -115,22 +116,48 @@ impl Cause {
     }
 }
 
-fn cause_of(alloc: Global, known: &Known<'_>, finding: &Finding) -> Result<Cause, AllocError> {
+fn cause_of(
+    alloc: Global,
+    known: &Known<'_>,
+    finding: &Finding,
+    outlook: Option<&Outlook>,
+) -> Result<Cause, AllocError> {
     match finding.grade {
-        Grade::Possible => Cause::of(alloc, known, finding),
-        Grade::Confirmed(_) => Ok(Cause::none(alloc)),
+        Grade::Possible if !is_remedied(outlook, finding) => Cause::of(alloc, known, finding),
+        Grade::Possible | Grade::Confirmed(_) => Ok(Cause::none(alloc)),
+    }
+}
+
+/// A line of the conditions shows a finding.
+pub fn is_remedied(outlook: Option<&Outlook>, finding: &Finding) -> bool {
+    match outlook {
+        Some(outlook) => outlook.has_remedy(finding),
+        None => false,
+    }
+}
+
+/// A line of the conditions is needed to show both.
+fn are_joined(outlook: Option<&Outlook>, one: &Finding, other: &Finding) -> bool {
+    match outlook {
+        Some(outlook) => outlook.are_joined(one, other),
+        None => false,
     }
 }
 
 impl Causes {
     /// The causes of findings, each by itself.
-    fn apart(alloc: Global, known: &Known<'_>, findings: &[Finding]) -> Result<Causes, AllocError> {
+    fn apart(
+        alloc: Global,
+        known: &Known<'_>,
+        findings: &[&Finding],
+        outlook: Option<&Outlook>,
+    ) -> Result<Causes, AllocError> {
         let mut causes = Causes {
             all: Vec::new(alloc),
             labels: Vec::new(alloc),
         };
         for (number, finding) in findings.iter().enumerate() {
-            causes.all.push(cause_of(alloc, known, finding)?)?;
+            causes.all.push(cause_of(alloc, known, finding, outlook)?)?;
             causes.labels.push(number)?;
         }
         Ok(causes)
@@ -160,16 +187,19 @@ impl Causes {
         }
     }
 
-    /// The causes of findings, of which those that are alike are told as one.
+    /// The causes of findings, of which those that are alike, or need one line of the conditions, are told as one.
     pub fn of(
         alloc: Global,
         known: &Known<'_>,
-        findings: &[Finding],
+        findings: &[&Finding],
+        outlook: Option<&Outlook>,
     ) -> Result<Causes, AllocError> {
-        let mut causes = Causes::apart(alloc, known, findings)?;
+        let mut causes = Causes::apart(alloc, known, findings, outlook)?;
         for one in 0..findings.len() {
             for other in 0..one {
-                if causes.are_alike(one, other) {
+                if are_joined(outlook, findings[one], findings[other])
+                    || causes.are_alike(one, other)
+                {
                     causes.join(one, other);
                 }
             }

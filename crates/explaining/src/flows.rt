@@ -1,6 +1,7 @@
 //! The paths through statements, counted.
 
-use crate::forks::{Sides, Tests, greater, sides_of, take_index, take_test, take_value, ways_of};
+use crate::forks::{Sides, Tests, greater, sides_of, ways_of};
+use crate::placing::{take_element, take_test, take_value};
 use core_code::tree::{Statement, Term};
 use places::{Point, Rest, holds_barrier};
 use std::alloc::{AllocError, Global};
@@ -127,6 +128,18 @@ fn parted(tests: &Tests<'_>, test: &Term, taken: Flows, skipped: Flows) -> Flows
     taken.times(sides.holds).or(skipped.times(sides.fails))
 }
 
+/// In how many ways the branches of an `if` are come to.
+fn branches(tests: &Tests<'_>, test: &Term) -> Sides {
+    let sides = sides_of(tests, test, true);
+    if tests.is_settled(test) {
+        return Sides {
+            holds: sides.total(),
+            fails: sides.total(),
+        };
+    }
+    sides
+}
+
 /// The two branches of an `if`, each with its paths and the variables that are a number behind it.
 fn joined(
     tests: &mut Tests<'_>,
@@ -141,8 +154,13 @@ fn joined(
 }
 
 /// Takes up the test of a statement, with the ways in which it holds and those in which it does not.
-fn tested(tests: &mut Tests<'_>, number: u32, test: &Term) -> Result<Sides, AllocError> {
-    take_test(tests, number, test)?;
+fn tested(
+    alloc: Global,
+    tests: &mut Tests<'_>,
+    number: u32,
+    test: &Term,
+) -> Result<Sides, AllocError> {
+    take_test(alloc, tests, number, test)?;
     Ok(sides_of(tests, test, true))
 }
 
@@ -153,7 +171,7 @@ fn entered(
     number: u32,
     test: &Term,
 ) -> Result<Vec<bool>, AllocError> {
-    take_test(tests, number, test)?;
+    take_test(alloc, tests, number, test)?;
     Vec::from_slice(alloc, tests.settled.as_slice())
 }
 
@@ -169,8 +187,14 @@ fn turned_back(
 }
 
 /// A variable is set.
-fn set(tests: &mut Tests<'_>, number: u32, slot: u32, value: &Term) -> Result<Flows, AllocError> {
-    take_value(tests, number, value)?;
+fn set(
+    alloc: Global,
+    tests: &mut Tests<'_>,
+    number: u32,
+    slot: u32,
+    value: &Term,
+) -> Result<Flows, AllocError> {
+    take_value(alloc, tests, number, value)?;
     let ways = ways_of(tests, value);
     tests.settle(slot, value);
     Ok(THROUGH.times(ways))
@@ -178,13 +202,13 @@ fn set(tests: &mut Tests<'_>, number: u32, slot: u32, value: &Term) -> Result<Fl
 
 /// An element is set.
 fn store(
+    alloc: Global,
     tests: &mut Tests<'_>,
     number: u32,
     index: &Term,
     value: &Term,
 ) -> Result<Flows, AllocError> {
-    take_index(tests, number, index)?;
-    take_value(tests, number, value)?;
+    take_element(alloc, tests, number, index, value)?;
     let flows = THROUGH.times(ways_of(tests, index));
     Ok(flows.times(ways_of(tests, value)))
 }
@@ -197,23 +221,28 @@ fn walk(alloc: Global, tests: &mut Tests<'_>, statement: &Statement) -> Result<F
             number,
             slot,
             value,
-        } => set(tests, *number, *slot, value),
+        } => set(alloc, tests, *number, *slot, value),
         Statement::Store {
             number,
             index,
             value,
             ..
-        } => store(tests, *number, index, value),
+        } => store(alloc, tests, *number, index, value),
         Statement::If {
             number,
             test,
             taken,
             skipped,
         } => {
+            let ways = tests.before;
+            let sides = branches(tests, test);
             let before = entered(alloc, tests, *number, test)?;
+            tests.before = ways.saturating_mul(sides.holds);
             let one = walk_all(alloc, tests, taken.as_slice())?;
             let behind = turned_back(alloc, tests, before)?;
+            tests.before = ways.saturating_mul(sides.fails);
             let other = walk_all(alloc, tests, skipped.as_slice())?;
+            tests.before = ways;
             Ok(joined(tests, test, behind.as_slice(), one, other))
         }
         Statement::Loop {
@@ -225,8 +254,12 @@ fn walk(alloc: Global, tests: &mut Tests<'_>, statement: &Statement) -> Result<F
             if !holds_barrier(body.as_slice(), update.as_slice()) {
                 return Ok(STOPPED);
             }
-            let sides = tested(tests, *number, test)?;
-            Ok(around(sides, walk_all(alloc, tests, body.as_slice())?))
+            let sides = tested(alloc, tests, *number, test)?;
+            let ways = tests.before;
+            tests.before = ways.saturating_mul(sides.holds);
+            let inside = walk_all(alloc, tests, body.as_slice())?;
+            tests.before = ways;
+            Ok(around(sides, inside))
         }
         Statement::Barrier { .. } | Statement::Return { .. } => Ok(STOPPED),
         Statement::Break { .. } => Ok(Flows {
@@ -242,17 +275,36 @@ fn walk(alloc: Global, tests: &mut Tests<'_>, statement: &Statement) -> Result<F
     }
 }
 
+/// A loop that never turns may stand in front of the statement: it is no other stop, and not the only one of its block, which may have no
+/// braces.
+fn may_be_parted(statement: &Statement, count: usize) -> bool {
+    match statement {
+        Statement::Set { .. } | Statement::Store { .. } | Statement::If { .. } => count > 0,
+        _ => false,
+    }
+}
+
 /// Statements one after the other, as far as a path comes.
 #[cycle(flowing)]
 fn walk_all(alloc: Global, tests: &mut Tests<'_>, body: &[Statement]) -> Result<Flows, AllocError> {
+    let before = tests.before;
     let mut flows = THROUGH;
+    let mut count: usize = 0;
     for statement in body {
         if flows.through == 0 {
+            tests.before = before;
             return Ok(flows);
         }
+        let ways = before.saturating_mul(flows.through);
+        if may_be_parted(statement, count) {
+            tests.note_cut(statement.number(), ways);
+        }
+        tests.before = ways;
         let next = walk(alloc, tests, statement)?;
         flows = flows.then(next);
+        count = count.saturating_add(1);
     }
+    tests.before = before;
     Ok(flows)
 }
 
@@ -277,6 +329,7 @@ fn go_on(
 ) -> Result<Flows, AllocError> {
     let mut flows = begin;
     for rest in rests.iter().rev() {
+        tests.before = flows.through;
         flows = match rest {
             Rest::Fresh(body) => flows.then(walk_all(alloc, tests, body)?),
             Rest::Turning(statement) => {
@@ -306,7 +359,8 @@ fn from_loop(
     else {
         return go_on(alloc, tests, rests, THROUGH);
     };
-    let sides = tested(tests, *number, test)?;
+    let sides = tested(alloc, tests, *number, test)?;
+    tests.before = sides.holds;
     let turned = walk_all(alloc, tests, body.as_slice())?.at_update();
     let turned = turned.then(walk_all(alloc, tests, update.as_slice())?);
     go_on(alloc, tests, rests, around(sides, turned))

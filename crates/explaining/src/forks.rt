@@ -1,13 +1,16 @@
 //! Tests, and how many ways each makes for a path.
 
 use crate::kinds::kind_of;
-use crate::pieces::{Piece, operand, piece_at, pieces_of, site_in};
+use crate::signs::{Signs, signs_of};
 use crate::vague::Slots;
 use core_code::tree::{Core, Relation, Site, Term};
+use kernel_names::site_at;
 use std::alloc::{AllocError, Global};
-use syntax::tree::Expr;
 use types::typed::Typed;
 use words::Kind;
+
+/// So many ways that come together are worth being parted from those behind.
+const MANY: u64 = 64;
 
 /// What makes several ways, where it is, and how many they are.
 #[derive(Clone, Copy)]
@@ -24,22 +27,26 @@ pub struct Sides {
     pub fails: u64,
 }
 
-/// What is known where a test stands: which variables are a number on each path; and the ways that were met, in the wide walk or not.
+/// A statement in front of which paths may be parted, and in how many ways it is come to.
+#[derive(Clone, Copy)]
+pub struct Cut {
+    pub number: u32,
+    pub ways: u64,
+}
+
+/// What is known where a test stands: which variables are a number on each path; the ways that were met, in the wide walk or not; in how
+/// many ways the block is come to that is gone through, and in front of which statement many come together for the first time.
 #[derive(Drop)]
 pub struct Tests<'a> {
     core: &'a Core,
     slots: &'a Slots<'a>,
     is_wide: bool,
-    pieces: Vec<Piece<'a>>,
+    typed: &'a Typed,
+    pub signs: Signs,
     pub settled: Vec<bool>,
     pub forks: Vec<Fork>,
-}
-
-/// The expression of a term, where it is known, and the site of their statement.
-#[derive(Clone, Copy)]
-struct Part<'a> {
-    expr: Option<&'a Expr>,
-    site: Site,
+    pub before: u64,
+    pub cut: Option<Cut>,
 }
 
 impl Sides {
@@ -84,9 +91,10 @@ pub fn greater(one: u64, other: u64) -> u64 {
 }
 
 impl<'a> Tests<'a> {
-    /// The tests of a kernel, before any was met.
+    /// The tests of a kernel, of which this is the text, before any was met.
     pub fn of(
         alloc: Global,
+        kernel: &[u8],
         typed: &'a Typed,
         slots: &'a Slots<'a>,
         is_wide: bool,
@@ -97,9 +105,12 @@ impl<'a> Tests<'a> {
             core,
             slots,
             is_wide,
-            pieces: pieces_of(alloc, typed.kernel())?,
+            typed,
+            signs: signs_of(alloc, kernel)?,
             settled: vec![in alloc; false; count]?,
             forks: Vec::new(alloc),
+            before: 1,
+            cut: None,
         })
     }
 
@@ -136,7 +147,7 @@ impl<'a> Tests<'a> {
     }
 
     /// The ways of `min` or `max` alone.
-    fn ways_of_end(&self, left: &Term, right: &Term) -> u64 {
+    pub fn ways_of_end(&self, left: &Term, right: &Term) -> u64 {
         if self.are_known(left, right) { 1 } else { 2 }
     }
 
@@ -184,6 +195,13 @@ impl<'a> Tests<'a> {
         }
     }
 
+    /// Takes notice of a statement that is come to in so many ways, where these are many for the first time.
+    pub fn note_cut(&mut self, number: u32, ways: u64) {
+        if self.cut.is_none() && ways >= MANY {
+            self.cut = Some(Cut { number, ways });
+        }
+    }
+
     /// A variable is set.
     pub fn settle(&mut self, slot: u32, value: &Term) {
         let is_known = self.is_known(value);
@@ -192,7 +210,17 @@ impl<'a> Tests<'a> {
         }
     }
 
-    fn push_fork(&mut self, site: Site, ways: u64, note: &'static str) -> Result<(), AllocError> {
+    /// Where the statement of a number begins.
+    pub fn site_of(&self, number: u32) -> Site {
+        site_at(self.typed.names(), Some(number))
+    }
+
+    pub fn push_fork(
+        &mut self,
+        site: Site,
+        ways: u64,
+        note: &'static str,
+    ) -> Result<(), AllocError> {
         if ways > 1 {
             self.forks.push(Fork { site, ways, note })?;
         }
@@ -347,170 +375,4 @@ pub fn ways_of(tests: &Tests<'_>, term: &Term) -> u64 {
             count.saturating_mul(ways_of(tests, third))
         }
     }
-}
-
-/// What the ways of a test are, where it has three.
-fn note_of(test: &Term, ways: u64) -> &'static str {
-    match test {
-        Term::And { .. } | Term::Or { .. } | Term::Not { .. } => "",
-        Term::Compare { .. } if ways == 3 => ": below, equal, above",
-        _ if ways == 3 => ": below 0, 0, above 0",
-        _ => "",
-    }
-}
-
-impl<'a> Part<'a> {
-    /// The part that is an operand of this one, by its number.
-    fn operand(self, number: usize) -> Part<'a> {
-        Part {
-            expr: operand(self.expr, number),
-            ..self
-        }
-    }
-
-    /// Where it is told.
-    fn place(self) -> Site {
-        site_in(self.expr, self.site)
-    }
-}
-
-/// Takes up a test alone, which is told at a site.
-fn push_own(tests: &mut Tests<'_>, test: &Term, at: Site) -> Result<(), AllocError> {
-    let ways = sides_of(tests, test, false).total();
-    tests.push_fork(at, ways, note_of(test, ways))
-}
-
-/// Takes up the tests that a value is, or has of its own; a test may be told already.
-fn push_head(
-    tests: &mut Tests<'_>,
-    part: Part<'_>,
-    term: &Term,
-    is_told: bool,
-) -> Result<(), AllocError> {
-    match term {
-        Term::Compare { .. } | Term::Not { .. } | Term::And { .. } | Term::Or { .. } => {
-            if is_told {
-                Ok(())
-            } else {
-                push_own(tests, term, part.place())
-            }
-        }
-        Term::Select { test, .. } => push_own(tests, test, part.place()),
-        Term::Minimum { left, right } | Term::Maximum { left, right } => {
-            let ways = tests.ways_of_end(left, right);
-            tests.push_fork(part.place(), ways, "")
-        }
-        _ => Ok(()),
-    }
-}
-
-/// Takes up the tests in a value, or those in the operands of a test that is told already.
-fn push_value(
-    tests: &mut Tests<'_>,
-    part: Part<'_>,
-    term: &Term,
-    is_told: bool,
-) -> Result<(), AllocError> {
-    push_head(tests, part, term, is_told)?;
-    match term {
-        Term::Literal { .. } | Term::Variable { .. } | Term::Id { .. } => Ok(()),
-        Term::Convert { of, .. } | Term::Within { index: of, .. } => {
-            push_value(tests, part, of, false)
-        }
-        Term::Load { index: of, .. } | Term::Unary { of, .. } => {
-            push_value(tests, part.operand(0), of, false)
-        }
-        Term::Not { of } => push_value(tests, part.operand(0), of, true),
-        Term::And { left, right } | Term::Or { left, right } => {
-            push_value(tests, part.operand(0), left, true)?;
-            push_value(tests, part.operand(1), right, true)
-        }
-        Term::Binary { left, right, .. }
-        | Term::Compare { left, right, .. }
-        | Term::Minimum { left, right }
-        | Term::Maximum { left, right }
-        | Term::Shift {
-            value: left,
-            count: right,
-            ..
-        } => {
-            push_value(tests, part.operand(0), left, false)?;
-            push_value(tests, part.operand(1), right, false)
-        }
-        Term::Opaque {
-            first,
-            second,
-            third,
-            ..
-        } => {
-            push_value(tests, part.operand(0), first, false)?;
-            push_value(tests, part.operand(1), second, false)?;
-            push_value(tests, part.operand(2), third, false)
-        }
-        Term::Select {
-            test,
-            taken,
-            skipped,
-        } => {
-            push_value(tests, part.operand(0), test, true)?;
-            push_value(tests, part.operand(1), taken, false)?;
-            push_value(tests, part.operand(2), skipped, false)
-        }
-    }
-}
-
-/// Takes up the tests in the value that a sign `op=` computes, but for those of its target.
-fn push_compound(tests: &mut Tests<'_>, part: Part<'_>, term: &Term) -> Result<(), AllocError> {
-    match term {
-        Term::Convert { of, .. } => push_compound(tests, part, of),
-        Term::Binary { right, .. } => push_value(tests, part, right, false),
-        _ => Ok(()),
-    }
-}
-
-/// The piece of a statement; a statement that has none is not told.
-fn piece_of<'a>(tests: &Tests<'a>, number: u32) -> Piece<'a> {
-    let none = Piece {
-        number,
-        site: Site { line: 1, column: 1 },
-        index: None,
-        value: None,
-        is_compound: false,
-    };
-    piece_at(tests.pieces.as_slice(), number).unwrap_or(none)
-}
-
-/// Takes up the test of a statement.
-pub fn take_test(tests: &mut Tests<'_>, number: u32, test: &Term) -> Result<(), AllocError> {
-    let piece = piece_of(tests, number);
-    let part = Part {
-        expr: piece.value,
-        site: piece.site,
-    };
-    push_own(tests, test, part.place())?;
-    push_value(tests, part, test, true)
-}
-
-/// Takes up the tests in the value of a statement.
-pub fn take_value(tests: &mut Tests<'_>, number: u32, value: &Term) -> Result<(), AllocError> {
-    let piece = piece_of(tests, number);
-    let part = Part {
-        expr: piece.value,
-        site: piece.site,
-    };
-    if piece.is_compound {
-        push_compound(tests, part, value)
-    } else {
-        push_value(tests, part, value, false)
-    }
-}
-
-/// Takes up the tests in the index of a statement.
-pub fn take_index(tests: &mut Tests<'_>, number: u32, index: &Term) -> Result<(), AllocError> {
-    let piece = piece_of(tests, number);
-    let part = Part {
-        expr: piece.index,
-        site: piece.site,
-    };
-    push_value(tests, part, index, false)
 }

@@ -1,16 +1,12 @@
 //! What conditions allow one value of.
 
+use crate::said::sum_of;
+use crate::sums::{Name, Sum};
 use core_code::tree::{Core, Function};
 use launch::conditions::{Conditions, Content, CountRange, CountRanges, Factor, Summand};
 use launch::number::Number;
 use std::alloc::{AllocError, Global};
 use words::Kind;
-
-/// The greatest number that is named as an example of one value.
-const HIGH: i64 = 65_536;
-
-/// A number that is named where the greatest one that is allowed is too large to be told.
-const EXAMPLE: i64 = 1024;
 
 /// The numbers of a dimension: its work-items in a group, and the groups that the conditions allow.
 #[derive(Clone, Copy)]
@@ -20,17 +16,11 @@ struct Extent {
     high: u32,
 }
 
-/// One value of an argument or of a count of groups, which the conditions might ask for.
+/// One count of groups, which the conditions might ask for.
 #[derive(Clone, Copy)]
-pub enum OneValue {
-    Argument {
-        slot: usize,
-        value: i64,
-    },
-    Groups {
-        dimension: u32,
-        ranges: [(u32, u32); 3],
-    },
+pub struct OneCount {
+    dimension: u32,
+    ranges: [(u32, u32); 3],
 }
 
 /// What the conditions say of the numbers that a buffer holds: that they have a least one, and that it is not negative, and that they have
@@ -57,6 +47,8 @@ pub struct Given {
     arguments: Vec<(i64, i64)>,
     extents: [Extent; 3],
     buffers: Vec<Ends>,
+    tops: Vec<Option<Sum>>,
+    lengths: Vec<Option<Sum>>,
 }
 
 fn extent_of(size: u32, range: CountRange) -> Extent {
@@ -74,17 +66,6 @@ fn extents(sizes: [u32; 3], groups: CountRanges) -> [Extent; 3] {
         extent_of(y, groups.y),
         extent_of(z, groups.z),
     ]
-}
-
-/// The greatest number that is allowed, or a smaller one where that is too large to be told.
-fn example(low: i64, high: i64) -> i64 {
-    if high <= HIGH {
-        high
-    } else if low <= EXAMPLE {
-        EXAMPLE
-    } else {
-        low
-    }
 }
 
 fn one_count(extent: Option<&Extent>, is_wanted: bool) -> (u32, u32) {
@@ -116,6 +97,8 @@ impl Given {
             arguments: Vec::new(alloc),
             extents: extents(core.sizes, conditions.groups),
             buffers: Vec::new(alloc),
+            tops: Vec::new(alloc),
+            lengths: Vec::new(alloc),
         };
         for range in conditions.arguments.iter() {
             given
@@ -124,6 +107,10 @@ impl Given {
         }
         for kind in core.buffers.iter() {
             given.buffers.push(ends_of(*kind))?;
+            given.tops.push(None)?;
+        }
+        for length in conditions.lengths.iter() {
+            given.lengths.push(sum_of(&length.least))?;
         }
         for content in conditions.contents.iter() {
             given.take_line(content);
@@ -133,6 +120,11 @@ impl Given {
 
     /// Takes up what a line says of a buffer.
     fn take_line(&mut self, content: &Content) {
+        if content.is_upper {
+            if let Some(top) = self.tops.get_mut(content.buffer as usize) {
+                *top = sum_of(&content.sum);
+            }
+        }
         let mut is_unsigned = true;
         for summand in content.sum.terms.iter() {
             is_unsigned = is_unsigned && self.is_unsigned_summand(*summand);
@@ -229,19 +221,72 @@ impl Given {
         }
     }
 
-    /// One value of an argument of a slot.
-    pub fn one_argument(&self, slot: usize) -> Option<OneValue> {
-        let (low, high) = self.arguments.get(slot)?;
-        Some(OneValue::Argument {
-            slot,
-            value: example(*low, *high),
-        })
+    /// The range of an argument.
+    pub fn range(&self, slot: usize) -> Option<(i64, i64)> {
+        self.arguments.get(slot).copied()
+    }
+
+    pub fn has_argument(&self, slot: usize) -> bool {
+        slot < self.arguments.len()
+    }
+
+    /// An argument as a sum.
+    pub fn argument(&self, slot: usize) -> Option<Sum> {
+        let (low, high) = self.range(slot)?;
+        if low == high {
+            Some(Sum::number(low))
+        } else {
+            Sum::of(1, Name::Argument(u32::try_from(slot).ok()?))
+        }
+    }
+
+    /// The sum that a line of the conditions has for the greatest number of a buffer.
+    pub fn top(&self, buffer: u32) -> Option<Sum> {
+        *self.tops.get(buffer as usize)?
+    }
+
+    /// The sum that the length of a buffer is at least.
+    pub fn length(&self, buffer: u32) -> Option<Sum> {
+        *self.lengths.get(buffer as usize)?
+    }
+
+    /// So many times the groups of a dimension.
+    fn groups(&self, dimension: u32, times: u32) -> Option<Sum> {
+        let extent = self.extent_at(dimension)?;
+        if extent.low == extent.high {
+            Some(Sum::number((extent.low as i64).checked_mul(times as i64)?))
+        } else {
+            Sum::of(times as i64, Name::Groups(dimension))
+        }
+    }
+
+    /// What a function tells of a dimension at most.
+    pub fn most_of(&self, function: Function, dimension: u32) -> Option<Sum> {
+        let size = self.extent_at(dimension)?.size;
+        match function {
+            Function::GlobalId => self.groups(dimension, size)?.more(-1),
+            Function::GroupId => self.groups(dimension, 1)?.more(-1),
+            Function::LocalId => Some(Sum::number((size as i64).saturating_sub(1))),
+            Function::GlobalSize => self.groups(dimension, size),
+            Function::NumGroups => self.groups(dimension, 1),
+            Function::LocalSize => Some(Sum::number(size as i64)),
+        }
+    }
+
+    /// What a function tells of a dimension at least.
+    pub fn least_of(&self, function: Function, dimension: u32) -> Option<Sum> {
+        match function {
+            Function::GlobalId | Function::GroupId | Function::LocalId => Some(Sum::number(0)),
+            Function::GlobalSize | Function::NumGroups | Function::LocalSize => {
+                self.most_of(function, dimension)
+            }
+        }
     }
 
     /// One count of groups in a dimension, for a function that would be a number by it.
-    pub fn one_groups(&self, function: Function, dimension: u32) -> Option<OneValue> {
+    pub fn one_groups(&self, function: Function, dimension: u32) -> Option<OneCount> {
         match function {
-            Function::GlobalSize | Function::NumGroups => Some(OneValue::Groups {
+            Function::GlobalSize | Function::NumGroups => Some(OneCount {
                 dimension,
                 ranges: [
                     one_count(self.extent_at(0), dimension == 0),
@@ -254,43 +299,35 @@ impl Given {
     }
 }
 
-impl OneValue {
-    /// Two are of the same argument or dimension.
-    pub fn is_like(self, other: OneValue) -> bool {
-        match (self, other) {
-            (OneValue::Argument { slot, .. }, OneValue::Argument { slot: second, .. }) => {
-                slot == second
-            }
-            (
-                OneValue::Groups { dimension, .. },
-                OneValue::Groups {
-                    dimension: second,
-                    ..
-                },
-            ) => dimension == second,
-            _ => false,
-        }
+impl OneCount {
+    /// Two are of the same dimension.
+    pub fn is_like(self, other: OneCount) -> bool {
+        self.dimension == other.dimension
     }
 
-    /// Writes the line of the conditions that allows the one value, by the names of the arguments.
-    pub fn push(self, names: &[&str], out: &mut String) -> Result<(), AllocError> {
-        match self {
-            OneValue::Argument { slot, value } => {
-                let name = names.get(slot).copied().unwrap_or("?");
-                write!(out, "arg {name} {value}..{value}")
-            }
-            OneValue::Groups { ranges, .. } => {
-                out.push_str("groups")?;
-                for (low, high) in ranges {
-                    write!(out, " {low}..{high}")?;
-                }
-                Ok(())
-            }
+    /// Writes the line of the conditions that allows the one count.
+    pub fn push(self, out: &mut String) -> Result<(), AllocError> {
+        out.push_str("groups")?;
+        for (low, high) in self.ranges {
+            write!(out, " {low}..{high}")?;
         }
+        Ok(())
     }
 }
 
 impl Unbounded {
+    pub fn buffer(self) -> u32 {
+        self.buffer
+    }
+
+    pub fn is_below(self) -> bool {
+        self.below
+    }
+
+    pub fn is_above(self) -> bool {
+        self.above
+    }
+
     /// Writes the lines of the conditions that bound what the buffer holds, by the names of the buffers.
     pub fn push(self, names: &[&str], out: &mut String) -> Result<(), AllocError> {
         let name = names.get(self.buffer as usize).copied().unwrap_or("?");

@@ -1,15 +1,16 @@
 //! Values of which little is known, on which what was not shown depends.
 
-use crate::given::{Given, OneValue, Unbounded};
+use crate::given::{Given, OneCount, Unbounded};
 use crate::paragraph::push_paragraph;
 use crate::parts::{MOST, put, put_both, statements_of, terms_of};
 use crate::source::{push_label, push_site};
+use crate::sums::Sum;
 use crate::vague::{Slots, Vague};
-use core_code::tree::{Operator, Site, Statement, Term};
+use core_code::tree::{LocalArray, Operator, Site, Statement, Term};
 use findings::{Finding, FindingKind, Spot};
+use kernel_names::site_at;
 use launch::conditions::Conditions;
 use std::alloc::{AllocError, Global};
-use syntax::site_at;
 use types::typed::Typed;
 use words::Fault;
 
@@ -34,10 +35,12 @@ pub struct OwnNames<'a> {
 /// The statements of a kernel, where each begins, and what is known of its variables.
 #[derive(Drop)]
 pub struct Known<'a> {
+    pub body: &'a [Statement],
     pub statements: Vec<&'a Statement>,
     pub sites: Vec<Site>,
     pub slots: Slots<'a>,
-    count: usize,
+    pub count: usize,
+    arrays: &'a [LocalArray],
 }
 
 impl<'a> Known<'a> {
@@ -50,16 +53,24 @@ impl<'a> Known<'a> {
         let statements = statements_of(alloc, core.body.as_slice())?;
         let mut sites = Vec::new(alloc);
         for statement in statements.iter() {
-            sites.push(site_at(typed.kernel(), Some(statement.number())))?;
+            sites.push(site_at(typed.names(), Some(statement.number())))?;
         }
         let given = Given::of(alloc, core, conditions)?;
         let slots = Slots::of(alloc, core, given, statements.as_slice())?;
         Ok(Known {
+            body: core.body.as_slice(),
+            arrays: core.arrays.as_slice(),
             statements,
             sites,
             slots,
             count: core.arguments.len().saturating_add(core.variables.len()),
         })
+    }
+
+    /// The length of a local array.
+    pub fn array_length(&self, number: u32) -> Option<Sum> {
+        let array = self.arrays.get(number as usize)?;
+        Some(Sum::number(array.length as i64))
     }
 }
 
@@ -322,18 +333,13 @@ fn first_behind(hints: &[Vague], place: u64) -> Option<Vague> {
     first
 }
 
-/// Writes with which line of the conditions a value would be exact; nothing where one value of one thing does not make it so.
-fn push_one(
-    alloc: Global,
-    names: &[&str],
-    one: Option<OneValue>,
-    out: &mut String,
-) -> Result<(), AllocError> {
+/// Writes with which line of the conditions a value would be exact; nothing where one count of groups does not make it so.
+fn push_one(alloc: Global, one: Option<OneCount>, out: &mut String) -> Result<(), AllocError> {
     let Some(one) = one else {
         return Ok(());
     };
     let mut label = String::from_str(alloc, "exact if the conditions say ")?;
-    one.push(names, &mut label)?;
+    one.push(&mut label)?;
     push_label(out, &label)
 }
 
@@ -369,7 +375,7 @@ fn push_some(
         place = order_of(hint.site);
         let is_shown = hint.site.line == line;
         push_site(alloc, out, kernel, hint.site, is_shown, hint.reason.text())?;
-        push_one(alloc, names.variables.as_slice(), hint.one, out)?;
+        push_one(alloc, hint.one, out)?;
         push_unbounded(alloc, names.buffers.as_slice(), hint.unbounded, out)?;
         line = hint.site.line;
     }

@@ -6,28 +6,47 @@
 //! proved of what is said here, and nothing believes it.
 #![tactic(auto)]
 
+mod amending;
 mod causes;
+mod condition_line;
+mod cutting;
 mod explanation;
+mod finding;
 mod flows;
 mod forks;
 mod given;
 mod groups;
+mod guards;
 mod hints;
 mod index;
+mod keys;
 mod kinds;
 mod meaning;
+mod meeting;
 mod names;
+mod outlook;
 mod paragraph;
 mod parts;
 mod paths;
-mod pieces;
+mod placing;
+mod proposals;
+mod reaches;
+mod rows;
+mod said;
 mod scene;
 mod schedule;
+mod signs;
 mod sizes;
 mod source;
 mod steps;
+mod sums;
 mod titles;
+mod told;
 mod vague;
 
+pub use amending::amended;
+pub use cutting::{Cuts, part_paths};
 pub use explanation::{Refused, explain};
+pub use meeting::may_be_met;
+pub use outlook::{Outlook, Proposal, Remedy, propose};
 pub use sizes::{computes_with_sizes, explain_sizes};

@@ -1,10 +1,23 @@
 //! What refusals mean, and what to do.
 
-/// Advice about findings that are only possible.
+/// What a finding says that is only possible.
 pub const POSSIBLE: &str =
+    "A possible finding says nothing of the kernel: it is what the search could not show, and a replay of the launch at the least values \
+     did not come there.";
+
+/// What is said of such findings with what to do about them.
+pub const ADVICE: &str =
     "A possible finding says nothing of the kernel: it is what the search could not show, and a replay of the launch at the least values \
      did not come there. A tighter condition may help (a range, a length, a requirement), or another way to write the kernel \
      (docs/KERNELS.md), or a certificate written by hand.";
+
+/// What is said where lines are told with which all is shown.
+pub const ENOUGH: &str =
+    "With these lines of the conditions a certificate is found. The host has to keep to them.";
+
+/// What is said where the certificate passes the budget.
+pub const OVER: &str =
+    "With these lines of the conditions and a larger budget a certificate is found. The host has to keep to them.";
 
 /// The meanings of refusals, and what to do about them, by their numbers.
 const MEANINGS: &[(u8, &str)] = &[

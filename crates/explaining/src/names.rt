@@ -1,11 +1,9 @@
 //! The names of a kernel's variables and arrays.
 
 use core_code::tree::Site;
+use kernel_names::NameMap;
 use std::alloc::{AllocError, Global};
-use syntax::tree::{Declaration, First, Kernel, Parameter, Stmt};
-
-/// How many statements a kernel has at most: no more than its text has bytes.
-const MOST: usize = 65_536;
+use syntax::tree::Parameter;
 
 /// The name of a variable, and where it is declared.
 #[derive(Clone, Copy)]
@@ -22,22 +20,10 @@ pub struct Names<'a> {
     pub arrays: Vec<&'a str>,
 }
 
-/// The statements of a block in front of those that are left, the next one last.
-fn push_block<'a>(left: &mut Vec<&'a Stmt>, block: &'a [Stmt]) -> Result<(), AllocError> {
-    for statement in block.iter().rev() {
-        left.push(statement)?;
-    }
-    Ok(())
-}
-
 impl<'a> Names<'a> {
     fn push_variable(&mut self, name: &'a str, site: Site) -> Result<(), AllocError> {
         self.variables.push(Named { name, site })?;
         Ok(())
-    }
-
-    fn push_declaration(&mut self, declaration: &'a Declaration) -> Result<(), AllocError> {
-        self.push_variable(declaration.name.as_str(), declaration.name_site)
     }
 
     fn push_parameter(&mut self, parameter: &'a Parameter) -> Result<(), AllocError> {
@@ -53,59 +39,23 @@ impl<'a> Names<'a> {
             } => self.push_variable(name.as_str(), *name_site),
         }
     }
-
-    fn push_first(&mut self, first: &'a First) -> Result<(), AllocError> {
-        match first {
-            First::Declares(declaration) => self.push_declaration(declaration),
-            First::Assigns(_) => Ok(()),
-        }
-    }
-
-    /// Takes up the names that a statement declares; the statements in it are put into `left`.
-    fn push_statement(
-        &mut self,
-        statement: &'a Stmt,
-        left: &mut Vec<&'a Stmt>,
-    ) -> Result<(), AllocError> {
-        match statement {
-            Stmt::Declare(declaration) => self.push_declaration(declaration),
-            Stmt::DeclareArray { name, .. } => {
-                self.arrays.push(name.as_str())?;
-                Ok(())
-            }
-            Stmt::If { taken, skipped, .. } => {
-                push_block(left, skipped.as_slice())?;
-                push_block(left, taken.as_slice())
-            }
-            Stmt::For { first, body, .. } => {
-                push_block(left, body.as_slice())?;
-                self.push_first(first)
-            }
-            Stmt::While { body, .. } | Stmt::Block { body, .. } => {
-                push_block(left, body.as_slice())
-            }
-            Stmt::Assign(_) | Stmt::Barrier { .. } | Stmt::Jump { .. } => Ok(()),
-        }
-    }
 }
 
 /// The names of a kernel, in the order in which its declarations stand.
-pub fn names_of(alloc: Global, kernel: &Kernel) -> Result<Names<'_>, AllocError> {
+pub fn names_of(alloc: Global, map: &NameMap) -> Result<Names<'_>, AllocError> {
     let mut names = Names {
         variables: Vec::new(alloc),
         buffers: Vec::new(alloc),
         arrays: Vec::new(alloc),
     };
-    for parameter in &kernel.parameters {
+    for parameter in &map.parameters {
         names.push_parameter(parameter)?;
     }
-    let mut left = Vec::new(alloc);
-    push_block(&mut left, kernel.body.as_slice())?;
-    for _statement in 0..MOST {
-        let Some(statement) = left.pop() else {
-            return Ok(names);
-        };
-        names.push_statement(statement, &mut left)?;
+    for variable in &map.variables {
+        names.push_variable(variable.name.as_str(), variable.site)?;
+    }
+    for array in &map.arrays {
+        names.arrays.push(array.name.as_str())?;
     }
     Ok(names)
 }

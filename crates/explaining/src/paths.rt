@@ -1,21 +1,22 @@
 //! Which tests multiply the paths from a place.
 
+use crate::cutting::Cuts;
 use crate::flows::{paths_from, paths_of};
-use crate::forks::{Fork, Tests};
+use crate::forks::{Cut, Fork, Tests};
 use crate::hints::Known;
 use crate::paragraph::push_paragraph;
 use crate::source::{push_label, push_site};
 use core_code::tree::{Site, Statement};
+use kernel_names::site_at;
 use places::{Point, points_of};
 use std::alloc::{AllocError, Global};
-use syntax::site_at;
 use types::typed::Typed;
 
 /// How many tests are told.
 const MOST: usize = 10;
 
 /// How many paths there may be from a place.
-const ALLOWED: u64 = 256;
+pub const ALLOWED: u64 = 256;
 
 /// A greater number of paths is not told.
 const TOLD: u64 = 1_000_000;
@@ -24,6 +25,16 @@ const TOLD: u64 = 1_000_000;
 const ADVICE: &str =
     "A barrier or a loop between two tests parts them: so does one that never turns, while (0 > 1) { }, at the cost of a step. A test by < \
      or > has two ways where one by ==, != or a number itself has three: write if (x > 0u) for if (x), and if (x < 1u) for if (x == 0u).";
+
+/// Where loops may stand that never turn.
+const CUTS: &str = "Such a loop, while (0 > 1) { }, may stand where many paths have come together:";
+
+/// What is said where they are enough.
+const PARTED: &str =
+    "So a certificate is found, for a budget that has a step more each time that one is come to.";
+
+/// What is said where they are not.
+const UNPARTED: &str = "That alone is not enough: no certificate is found so, either.";
 
 /// What to do where there are few paths, and so too many obligations.
 const FEW_PATHS: &str =
@@ -34,7 +45,7 @@ const FEW_PATHS: &str =
 /// The point of a site.
 fn point_at<'p, 'a>(typed: &Typed, points: &'p [Point<'a>], place: Site) -> Option<&'p Point<'a>> {
     for point in points {
-        if site_at(typed.kernel(), Some(point.statement.number())) == place {
+        if site_at(typed.names(), Some(point.statement.number())) == place {
             return Some(point);
         }
     }
@@ -116,11 +127,12 @@ fn push_forks(
     Ok(())
 }
 
-/// The tests behind a place, and how many paths these make by the text.
+/// The tests behind a place, how many paths these make by the text, and the first statement in front of which many come together.
 #[derive(Drop)]
-struct Count {
+pub struct Count {
     forks: Vec<Fork>,
-    total: u64,
+    pub total: u64,
+    pub cut: Option<Cut>,
 }
 
 /// How many paths there are by the text.
@@ -162,15 +174,40 @@ fn push_total(
     push_paragraph(out, "", &text)
 }
 
-/// The paths from a point, or from a kernel's beginning, in the wide walk or not.
-fn count_paths(
+/// Writes where loops that never turn part the paths, and whether a certificate is found with them.
+pub fn push_cuts(
     alloc: Global,
+    kernel: &[u8],
+    cuts: &Cuts,
+    out: &mut String,
+) -> Result<(), AllocError> {
+    out.push_str("\n")?;
+    push_paragraph(out, "", CUTS)?;
+    let mut line = 0;
+    for site in cuts.sites.iter() {
+        push_site(
+            alloc,
+            out,
+            kernel,
+            *site,
+            site.line == line,
+            "in front of this",
+        )?;
+        line = site.line;
+    }
+    push_paragraph(out, "", if cuts.is_enough { PARTED } else { UNPARTED })
+}
+
+/// The paths from a point, or from a kernel's beginning, in the wide walk or not.
+pub fn count_paths(
+    alloc: Global,
+    kernel: &[u8],
     typed: &Typed,
     known: &Known<'_>,
     point: Option<&Point<'_>>,
     is_wide: bool,
 ) -> Result<Count, AllocError> {
-    let mut tests = Tests::of(alloc, typed, &known.slots, is_wide)?;
+    let mut tests = Tests::of(alloc, kernel, typed, &known.slots, is_wide)?;
     let flows = match point {
         Some(point) => paths_from(alloc, &mut tests, point)?,
         None => paths_of(alloc, &mut tests, typed.core().body.as_slice())?,
@@ -178,6 +215,7 @@ fn count_paths(
     Ok(Count {
         forks: tests.forks,
         total: flows.total(),
+        cut: tests.cut,
     })
 }
 
@@ -214,11 +252,11 @@ pub fn push_paths(
 ) -> Result<(), AllocError> {
     let points = points_of(alloc, typed.core().body.as_slice())?;
     let point = point_at(typed, points.as_slice(), place);
-    let wide = count_paths(alloc, typed, known, point, true)?;
+    let wide = count_paths(alloc, kernel, typed, known, point, true)?;
     if wide.total > ALLOWED {
         return push_count(alloc, kernel, point, &wide, None, out);
     }
-    let narrow = count_paths(alloc, typed, known, point, false)?;
+    let narrow = count_paths(alloc, kernel, typed, known, point, false)?;
     if narrow.total > ALLOWED {
         return push_count(alloc, kernel, point, &narrow, Some(wide.total), out);
     }

@@ -343,7 +343,7 @@ pub fn push_scene(
     requires proper { is_proper (core_seen typed.now.1) ≡ true }
     requires fits { Fits (core_seen typed.now.1) (launch_seen launch.now) }
 {
-    let names = names_of(alloc, typed.kernel())?;
+    let names = names_of(alloc, typed.names())?;
     let replay = Replay {
         typed,
         launch,

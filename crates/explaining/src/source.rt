@@ -9,6 +9,21 @@ const ROOM: usize = 92;
 /// The number of signs that stand in front of the site, where the line is too long.
 const BEFORE: usize = 30;
 
+/// The place behind a byte.
+pub fn behind(site: Site, byte: u8) -> Site {
+    if byte == b'\n' {
+        Site {
+            line: site.line.saturating_add(1),
+            column: 1,
+        }
+    } else {
+        Site {
+            line: site.line,
+            column: site.column.saturating_add(1),
+        }
+    }
+}
+
 /// A byte as it is shown, in one column: what is neither a letter nor a sign is a blank or `?`.
 fn sign_of(byte: u8) -> char {
     match byte {

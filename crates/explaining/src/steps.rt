@@ -4,10 +4,10 @@ use crate::paragraph::push_paragraph;
 use crate::source::push_site;
 use certificate_notes::notes_of;
 use core_code::tree::Core;
+use kernel_names::site_at;
 use loop_bounds::{LoopBound, cost, turns};
 use places::places;
 use std::alloc::{AllocError, Global};
-use syntax::site_at;
 use types::typed::Typed;
 
 /// The largest budget that conditions have.
@@ -36,7 +36,7 @@ fn push_loop(
     let count = turns(&one.bound);
     let noun = if count == 1 { "turn" } else { "turns" };
     let label = format!(in alloc; "at most {count} {noun} each time")?;
-    let site = site_at(typed.kernel(), Some(one.number));
+    let site = site_at(typed.names(), Some(one.number));
     push_site(alloc, out, kernel, site, false, &label)
 }
 

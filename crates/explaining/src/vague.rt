@@ -1,6 +1,6 @@
 //! Operators of whose results only a range is known to the wide walk of a kernel.
 
-use crate::given::{Given, OneValue, Unbounded};
+use crate::given::{Given, OneCount, Unbounded};
 use crate::kinds::kind_of;
 use core_code::tree::{
     Array, Core, Direction, Operator, Site, Space, Statement, Term, UnaryOperator,
@@ -52,19 +52,19 @@ impl Reason {
 pub struct Vague {
     pub site: Site,
     pub reason: Reason,
-    pub one: Option<OneValue>,
+    pub one: Option<OneCount>,
     pub unbounded: Option<Unbounded>,
 }
 
-/// What is known of a kernel's variables, by their slots: which are a number, which may be negative, and which would be a number if an
-/// argument or a size were.
+/// What is known of a kernel's variables, by their slots: which are a number, which may be negative, and which would be a number if a
+/// count of groups were.
 #[derive(Drop)]
 pub struct Slots<'a> {
     core: &'a Core,
     given: Given,
     numbers: Vec<bool>,
     dips: Vec<bool>,
-    ones: Vec<Option<OneValue>>,
+    ones: Vec<Option<OneCount>>,
 }
 
 /// The mark of a slot.
@@ -125,10 +125,9 @@ impl<'a> Slots<'a> {
     fn push_slot(&mut self, place: usize) -> Result<(), AllocError> {
         let is_number = self.given.is_one(place);
         let dips = self.given.may_be_negative(place);
-        let one = self.given.one_argument(place);
         self.numbers.push(is_number)?;
         self.dips.push(dips)?;
-        self.ones.push(one)?;
+        self.ones.push(None)?;
         Ok(())
     }
 
@@ -219,8 +218,8 @@ impl<'a> Slots<'a> {
         }
     }
 
-    /// What would make a value a number that is none: one value of an argument or of a size.
-    fn one_value(&self, term: &Term) -> Option<OneValue> {
+    /// What would make a value a number that is none: one count of groups.
+    fn one_value(&self, term: &Term) -> Option<OneCount> {
         match term {
             Term::Variable { slot } => *self.ones.get(*slot as usize)?,
             Term::Id {
@@ -243,9 +242,9 @@ impl<'a> Slots<'a> {
         &self,
         left: &Term,
         right: &Term,
-        one: Option<OneValue>,
-        other: Option<OneValue>,
-    ) -> Option<OneValue> {
+        one: Option<OneCount>,
+        other: Option<OneCount>,
+    ) -> Option<OneCount> {
         if self.is_number(left) {
             return other;
         }
@@ -257,7 +256,7 @@ impl<'a> Slots<'a> {
     }
 
     /// What would make one of two values a number, the right one first.
-    fn one_of_either(&self, left: &Term, right: &Term) -> Option<OneValue> {
+    fn one_of_either(&self, left: &Term, right: &Term) -> Option<OneCount> {
         match self.one_value(right) {
             Some(one) => Some(one),
             None => self.one_value(left),
@@ -301,6 +300,11 @@ impl<'a> Slots<'a> {
                 }
             }
         }
+    }
+
+    /// What the conditions allow.
+    pub fn given(&self) -> &Given {
+        &self.given
     }
 
     /// The slots of a kernel, with what is known of its variables.
@@ -357,7 +361,7 @@ impl<'a> Slots<'a> {
     }
 
     /// What the conditions might say to make a value exact.
-    fn one_for(&self, reason: Reason, left: &Term, right: &Term) -> Option<OneValue> {
+    fn one_for(&self, reason: Reason, left: &Term, right: &Term) -> Option<OneCount> {
         match reason {
             Reason::Product => self.one_of_either(left, right),
             Reason::Quotient => self.one_value(right),

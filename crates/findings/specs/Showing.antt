@@ -9,8 +9,7 @@ use Rattle.semantics.specs.Item.{Entry, Item, Stopped}
 use Rattle.semantics.specs.Solo.{Access}
 use Rattle.semantics.specs.Safety.{Clash, Divergent}
 use Rattle.semantics.specs.World.{World, waits}
-use Rattle.texts.specs.Surface.{Kernel}
-use Rattle.syntax.specs.Sites.{site_at}
+use Rattle.kernel_names.specs.NameMap.{NameMap, site_at}
 use Rattle.findings.specs.Sizes.{is_of_size}
 use Rattle.findings.specs.Findings.{FindingKind, Race, Divergence, Faults, Sizes, Bound, Values, Spot, Store, Load, Barrier, End, At, WorkItem}
 
@@ -31,7 +30,7 @@ front_number [] = None
 front_number (e ∷ rest) = Some (number e.statement)
 
 -- of an item that waits the barrier in front of it, by where that statement begins in the source; of one that has ended its end
-abbrev pub standing_spot : Kernel → Item → Spot
+abbrev pub standing_spot : NameMap → Item → Spot
 standing_spot k it = cond (waits it.status) (Barrier (site_at k (front_number it.left))) End
 
 -- an item was stopped by the fault, of a size or not, and the site is that of the fault
@@ -58,7 +57,7 @@ pub record HasRace (s : Setup) (w : World) (sites : List Spot) (items : List Wor
   pub who : items ≡ item_of s earlier.item ∷ item_of s later.item ∷ []
 
 -- two items of a group diverge; the one that waits where the other does not stands first
-pub record HasDivergence (s : Setup) (k : Kernel) (w : World) (sites : List Spot) (items : List WorkItem) : Type 0 where
+pub record HasDivergence (s : Setup) (k : NameMap) (w : World) (sites : List Spot) (items : List WorkItem) : Type 0 where
   pub waiting : ℕ
   pub other : ℕ
   pub divergent : Divergent s w waiting other
@@ -67,7 +66,7 @@ pub record HasDivergence (s : Setup) (k : Kernel) (w : World) (sites : List Spot
   pub who : items ≡ item_of s waiting ∷ item_of s other ∷ []
 
 -- no world shows that a loop has too many turns; and what a buffer may hold is no matter of a world
-abbrev pub Shows : Setup → Kernel → World → FindingKind → List Spot → List WorkItem → Type 0
+abbrev pub Shows : Setup → NameMap → World → FindingKind → List Spot → List WorkItem → Type 0
 Shows s k w Race sites items = HasRace s w sites items
 Shows s k w Divergence sites items = HasDivergence s k w sites items
 Shows s k w (Faults f) sites items = HasFault s w f false sites items

@@ -2,8 +2,8 @@
 use Rattle.std.specs.Prelude.{◌≡◌, ◌<◌, ◌∷◌, [], ℕ, List}
 use Rattle.semantics.specs.Setup.{Setup, item_count}
 use Rattle.semantics.specs.World as worlds
-use Rattle.texts.specs.Surface.{Kernel}
 use Rattle.words.specs.View.{fault}
+use Rattle.kernel_names.specs.NameMap.{NameMap}
 use Rattle.findings.specs.Findings as findings
 use Rattle.findings.specs.Showing.{item_of, Shows}
 use Rattle.findings.specs.View.{spot, work_item}
@@ -23,7 +23,7 @@ spots_of v u = spot v.spot ∷ spot u.spot ∷ []
 abbrev pub items_of : (first second : Visit) → List findings.WorkItem
 items_of v u = work_item v.item ∷ work_item u.item ∷ []
 
-abbrev pub IsSighting : Setup → Kernel → worlds.World → Sighting → Type 0
+abbrev pub IsSighting : Setup → NameMap → worlds.World → Sighting → Type 0
 IsSighting s k w (variants.Fault f v) = Shows s k w (findings.Faults (fault f)) (spot v.spot ∷ []) (work_item v.item ∷ [])
 IsSighting s k w (variants.Size v) = Shows s k w findings.Sizes (spot v.spot ∷ []) (work_item v.item ∷ [])
 IsSighting s k w (variants.Race v u) = Shows s k w findings.Race (spots_of v u) (items_of v u)

@@ -1,7 +1,7 @@
 //! What a world shows that is wrong.
 
 ghost use Rattle.std.specs.Prelude.{IfSome};
-ghost use Rattle.syntax.specs.View.{kernel as tree_seen};
+ghost use Rattle.kernel_names.specs.View.{names_seen};
 ghost use Rattle.machine.specs.Worlds.{setup, world as world_seen, IsSound};
 ghost use Rattle.findings.specs.Showing.{HasRace, HasDivergence};
 ghost use Rattle.findings.specs.Visits as visits;
@@ -43,7 +43,7 @@ fn race(world: &World) -> Option<(Visit, Visit)>
 /// The first barrier divergence.
 fn divergence(typed: &Typed, world: &World) -> Option<(Visit, Visit)>
     requires { IsSound world.now }
-    ensures { IfSome result (λ p. HasDivergence (setup world.now) (tree_seen typed.now.0) (world_seen world.now) (visits.spots_of p.0 p.1) (visits.items_of p.0 p.1)) }
+    ensures { IfSome result (λ p. HasDivergence (setup world.now) (names_seen typed.now.0) (world_seen world.now) (visits.spots_of p.0 p.1) (visits.items_of p.0 p.1)) }
 {
     let (waiting, other) = world.divergence()?;
     let first = standing(typed, world, waiting)?;
@@ -79,7 +79,7 @@ fn stands_apart(world: &World, number: u64) -> bool
 /// A data race, else a barrier divergence.
 fn race_or_divergence(typed: &Typed, world: &World, number: u64) -> Option<Sighting>
     requires { IsSound world.now }
-    ensures { IfSome result (IsSighting (setup world.now) (tree_seen typed.now.0) (world_seen world.now)) }
+    ensures { IfSome result (IsSighting (setup world.now) (names_seen typed.now.0) (world_seen world.now)) }
 {
     if let Some((earlier, later)) = race(world) {
         return Some(Sighting::Race(earlier, later));
@@ -95,7 +95,7 @@ fn race_or_divergence(typed: &Typed, world: &World, number: u64) -> Option<Sight
 /// else a barrier divergence; none where all is well.
 pub fn look(typed: &Typed, world: &World, number: u64) -> Option<Sighting>
     requires { IsSound world.now }
-    ensures { IfSome result (IsSighting (setup world.now) (tree_seen typed.now.0) (world_seen world.now)) }
+    ensures { IfSome result (IsSighting (setup world.now) (names_seen typed.now.0) (world_seen world.now)) }
 {
     if number >= world.items.len() as u64 {
         return None;

@@ -3,7 +3,7 @@
 ghost use Rattle.std.specs.Prelude.{◌≡◌, ◌<◌, ◌≤◌, length, MatchOption};
 ghost use Rattle.semantics.specs.Setup.{item_count};
 ghost use Rattle.work_item.specs.Items.{item as item_seen};
-ghost use Rattle.syntax.specs.View.{kernel as tree_seen};
+ghost use Rattle.kernel_names.specs.View.{names_seen};
 ghost use Rattle.clashes.specs.View.{access as access_seen};
 ghost use Rattle.machine.specs.Worlds.{setup, items_of, IsSound};
 ghost use Rattle.findings.specs.Showing.{item_of, front_number, access_spot, standing_spot};
@@ -12,9 +12,9 @@ ghost use Rattle.findings.specs.Visits.{IsVisit};
 
 use crate::finding::{Spot, WorkItem};
 use clashes::access::Access;
+use kernel_names::site_at;
 use launch::launches::Counts;
 use machine::world::World;
-use syntax::site_at;
 use types::typed::Typed;
 use work_item::identity::identity;
 use work_item::item::{Item, Status};
@@ -100,10 +100,10 @@ fn front_number(item: &Item) -> Option<u32>
 
 /// The barrier at which an item waits, or the end of the kernel for one that has ended.
 fn standing_spot(typed: &Typed, item: &Item) -> Spot
-    ensures { spot_seen result ≡ standing_spot (tree_seen typed.now.0) (item_seen item.now) }
+    ensures { spot_seen result ≡ standing_spot (names_seen typed.now.0) (item_seen item.now) }
 {
     if matches!(item.status, Status::Waiting) {
-        Spot::Barrier(site_at(typed.kernel(), front_number(item)))
+        Spot::Barrier(site_at(typed.names(), front_number(item)))
     } else {
         Spot::End
     }
@@ -112,7 +112,7 @@ fn standing_spot(typed: &Typed, item: &Item) -> Spot
 /// The work-item of a number and the barrier or the end at which it stands; none where the launch has no such item.
 pub fn standing(typed: &Typed, world: &World, number: u64) -> Option<Visit>
     requires { IsSound world.now }
-    ensures { MatchOption result (item_count (setup world.now) ≤ number) (IsVisit (setup world.now) number (standing_spot (tree_seen typed.now.0) (items_of world.now number))) }
+    ensures { MatchOption result (item_count (setup world.now) ≤ number) (IsVisit (setup world.now) number (standing_spot (names_seen typed.now.0) (items_of world.now number))) }
 {
     if number >= world.items.len() as u64 {
         return None;

@@ -7,7 +7,7 @@
 #![tactic(auto)]
 
 mod claims;
-mod kernel_names;
+mod declared_names;
 mod leaves;
 mod line_table;
 mod loop_part;
@@ -23,7 +23,7 @@ mod subject;
 mod symbol_names;
 mod walking;
 
-pub use kernel_names::{Names, names_of};
+pub use declared_names::{Names, names_of};
 pub use leaves::{Begun, begun_of, leaves_of, places_of_paths, reached};
 pub use line_table::{LineTable, PlaceLines};
 pub use quotients::{Division, FormDivision, Shown, both_sides, both_sides_by};

@@ -1,6 +1,6 @@
 //! Rankings as what a certificate says of loops.
 
-use crate::kernel_names::Names;
+use crate::declared_names::Names;
 use crate::said::may_stand;
 use certificate::tree::{self, Descent};
 use guesses::Ranking;

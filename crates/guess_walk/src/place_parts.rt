@@ -1,6 +1,6 @@
 //! Candidates as what a certificate says of places.
 
-use crate::kernel_names::Names;
+use crate::declared_names::Names;
 use crate::said::is_due;
 use certificate::order::spot_is_before;
 use certificate::tree::{Anchor, Congruence, Multiple, Place, Spot};

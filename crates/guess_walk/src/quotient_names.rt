@@ -1,6 +1,6 @@
 //! Forms in names where no place narrows what a name means.
 
-use crate::kernel_names::Names;
+use crate::declared_names::Names;
 use certificate::tree;
 use facts::Family;
 use guesses::{Factors, has_product, index_of};

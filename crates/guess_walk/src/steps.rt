@@ -1,6 +1,6 @@
 //! Derivations as the steps of entries.
 
-use crate::kernel_names::Names;
+use crate::declared_names::Names;
 use certificate::tree::{self, Scaled, Step};
 use cut_proof::{Derivation, Lemma, Line};
 use std::alloc::{AllocError, Global};

@@ -1,6 +1,6 @@
 //! The names of symbols, and forms in names.
 
-use crate::kernel_names::Names;
+use crate::declared_names::Names;
 use crate::quotient_names::is_plainly_named;
 use certificate::spelling::push_name;
 use certificate::tree::{self, Dimension, Name};
@@ -282,7 +282,7 @@ impl<'a> Names<'a> {
             let term = spelt(alloc, term.coefficient, name)?;
             put(&mut terms, term)?;
         }
-        let terms = unspelt(alloc, terms)?;
+        let terms = tree::SharedTerms::of(alloc, unspelt(alloc, terms)?)?;
         Ok(Some(tree::Form {
             terms,
             constant: form.constant_part(),

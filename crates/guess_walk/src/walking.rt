@@ -1,6 +1,6 @@
 //! A kernel's places, walked as the check walks them.
 
-use crate::kernel_names::Names;
+use crate::declared_names::Names;
 use crate::loop_part::bound_of;
 use crate::noted::Noted;
 use crate::place_parts::places_of;

@@ -16,7 +16,7 @@ use Rattle.texts.specs.LaunchSums.{sum_at, buffer_number, buffer_found, buffer_a
 use Rattle.texts.specs.ConditionsReading.{CountRange, ArgumentRange, Length, Requirement, ContentLine, Lined, length_meant, requirement_meant, content_meant, counts_at, three_counts_at, groups_line, argument_at, argument_line, argument_due, argument_lines, length_of, length_line, length_due, length_lines, requirement_line, requirement_lines, end_at, content_of, content_line, content_lines, budget_line, lined, version_line, conditions_at, conditions_of}
 use Rattle.launch_text.specs.Fits.{AreCounts, IsRange, IsLength, IsOf}
 use Rattle.launch_text.proofs.Back.{then_back, same_back, when_back, unless_back, natural_back, word_back}
-use Rattle.launch_text.specs.Parameters.{kinds, value_kind, buffer_kind}
+use Rattle.kernel_names.specs.Parameters.{kinds, value_kind, buffer_kind}
 use Rattle.launch_text.proofs.Parameters.{buffer_below, Skips, Reads, each_back}
 use Rattle.launch_text.proofs.FitsRead.{sum_named}
 

@@ -11,7 +11,7 @@ use Rattle.texts.specs.LaunchFaults.{Cursor, Step, refused, then, sees, past}
 use Rattle.texts.specs.LaunchWords.{factor_at, name_at, is_known}
 use Rattle.texts.specs.LaunchSums.{value_number, argument_found, argument_at, symbol_at, times, symbols_at, begins_number, term_at, sum_at}
 use Rattle.launch_text.proofs.Back.{then_back, same_back}
-use Rattle.launch_text.specs.Parameters.{kinds, value_kind}
+use Rattle.kernel_names.specs.Parameters.{kinds, value_kind}
 use Rattle.launch_text.proofs.Parameters.{value_below}
 
 named : (kernel : Kernel) (ps : List Parameter) → kernel.arguments ≡ kinds value_kind ps → (name : List ℕ) (o : Option ℕ) (c : Cursor) (t : Factor × Cursor) → value_number 0 ps name ≡ o → argument_found ps name o c ≡ Ok t → IsNamedFactor kernel t.0

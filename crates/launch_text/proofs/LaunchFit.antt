@@ -12,7 +12,7 @@ use Rattle.texts.specs.LaunchFaults.{LimitPassed, Cursor, Step, cursor, refused,
 use Rattle.texts.specs.LaunchWords.{natural_at, word_at, head_line, end_text, due_blank, due_parameter}
 use Rattle.texts.specs.LaunchReading.{TypedLaunch, number, meant, counts, groups_line, argument_line, argument_due, argument_lines, list_at, fill_at, words_at, most_words, words_of, buffer_line, buffer_due, buffer_lines, fill_line, given, launch_at, launch_of}
 use Rattle.launch_text.proofs.Back.{then_back, same_back, unless_back, natural_back, word_back}
-use Rattle.launch_text.specs.Parameters.{kinds, value_kind, buffer_kind}
+use Rattle.kernel_names.specs.Parameters.{kinds, value_kind, buffer_kind}
 use Rattle.launch_text.proofs.Parameters.{Skips, Reads, each_back}
 
 abbrev AreThree : Three ℕ → Type 0

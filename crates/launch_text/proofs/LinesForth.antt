@@ -15,7 +15,8 @@ use Rattle.texts.specs.LaunchWords.{Launch, word_at, due, due_blank, due_paramet
 use Rattle.texts.specs.LaunchReading as reading
 use Rattle.texts.specs.LaunchReading.{TypedLaunch, groups_line, argument_line, argument_due, list_at, words_at, most_words, words_of, buffer_line, buffer_due, fill_line}
 use Rattle.texts.specs.LaunchText as text
-use Rattle.launch_text.specs.Parameters.{value_kind, buffer_kind, kinds, AreNamed, AreWords}
+use Rattle.kernel_names.specs.Parameters.{value_kind, buffer_kind, kinds}
+use Rattle.launch_text.specs.Parameters.{AreNamed, AreWords}
 use Rattle.launch_text.proofs.Lists.{words-push}
 use Rattle.launch_text.proofs.Forth.{natural_forth, word_forth, parameter_forth}
 

@@ -18,7 +18,7 @@ use Rattle.texts.specs.LaunchFaults.{Cursor, Step, then}
 use Rattle.texts.specs.LaunchWords.{go_on, each}
 use Rattle.texts.specs.LaunchSums.{value_number, buffer_number}
 use Rattle.types.specs.Elaborated.{IsElaborated}
-use Rattle.launch_text.specs.Parameters.{value_kind, buffer_kind, onto, kinds}
+use Rattle.kernel_names.specs.Parameters.{value_kind, buffer_kind, onto, kinds}
 use Rattle.launch_text.proofs.Back.{then_back}
 
 pub value_below : (b : ℕ) (ps : List Parameter) (name : List ℕ) (n : ℕ) → value_number b ps name ≡ Some n → n < b + length (kinds value_kind ps)
@@ -34,80 +34,6 @@ buffer_below b (Value k site own ∷ ps) name n h = buffer_below b ps name n h
 buffer_below b (Buffer constant k site own ∷ ps) name n h =
     cond_both (bytes_eq own name) (Some b) (buffer_number (b + 1) ps name) (λ o. o ≡ Some n → n < b + length (k ∷ kinds buffer_kind ps))
     (λ _ e. let q : b ≡ n = cc in omega arith) (λ _ e. omega (arith, buffer_below (b + 1) ps name n e)) h
-
-checked_back : {A B : Type 0} (s : checks.Checked A) (go : A → checks.Checked B) (b : B) → checks.then s go ≡ Ok b → (a : A) × (s ≡ Ok a) × (go a ≡ Ok b)
-checked_back (Ok a) go b e = (a, refl, e)
-checked_back (Err f) go b e = absurd cc
-
--- what is declared of one parameter
-abbrev IsDeclared : Scope → Scope → List Kind → List Kind → Type 0
-IsDeclared before after slots buffers = (after.slots ≡ before.slots ++ slots) × (after.buffers ≡ before.buffers ++ buffers)
-
-checked_when : {A : Type 0} (h : Bool) (f : checks.TypeFault) (site : Site) (a b : A) → checks.when h f site a ≡ Ok b → a ≡ b
-checked_when true f site a b e = cc
-checked_when false f site a b e = absurd cc
-
-declared_one : (p : Parameter) (before after : Scope) → declare_parameter before p ≡ Ok after → IsDeclared before after (onto (value_kind p) []) (onto (buffer_kind p) [])
-declared_one (Buffer constant k site name) before after e =
-    let q = checked_when (may_declare before name) _ site _ after e in
-    (ap (λ s. s.slots) (sym q) ∙ sym (append-nil before.slots), ap (λ s. s.buffers) (sym q))
-declared_one (Value k site name) before after e =
-    let q = checked_when (may_declare before name) _ site _ after e in
-    (ap (λ s. s.slots) (sym q), ap (λ s. s.buffers) (sym q) ∙ sym (append-nil before.buffers))
-
-one_more : (before after all : List Kind) (o : Option Kind) (others : List Kind) → after ≡ before ++ onto o [] → all ≡ after ++ others → all ≡ before ++ onto o others
-one_more before after all None others p q = q ∙ ap (λ ks. ks ++ others) (p ∙ append-nil before)
-one_more before after all (Some k) others p q = q ∙ ap (λ ks. ks ++ others) p ∙ append_assoc before (k ∷ []) others
-
-declared_all : (ps : List Parameter) (before after : Scope) → declare_parameters before ps ≡ Ok after → IsDeclared before after (kinds value_kind ps) (kinds buffer_kind ps)
-declared_all [] before after e =
-    let q : before ≡ after = cc in
-    (ap (λ s. s.slots) (sym q) ∙ sym (append-nil before.slots), ap (λ s. s.buffers) (sym q) ∙ sym (append-nil before.buffers))
-declared_all (p ∷ ps) before after e =
-    let inner = checked_back (declare_parameter before p) _ after e in
-    let one = declared_one p before inner.0 inner.1 in
-    let all = declared_all ps inner.0 after inner.2 in
-    (one_more before.slots inner.0.slots after.slots (value_kind p) (kinds value_kind ps) one.0 all.0, one_more before.buffers inner.0.buffers after.buffers (buffer_kind p) (kinds buffer_kind ps) one.1 all.1)
-
-made : (a b : Kernel) → (let r : checks.Checked Kernel = Ok a in r ≡ Ok b) → a ≡ b
-made a b e = cc
-
-pub kernel_back : (d : Devices) (tree : surface.Kernel) (k : Kernel) → elaborate d tree ≡ Ok k → (k.arguments ≡ kinds value_kind tree.parameters) × (k.buffers ≡ kinds buffer_kind tree.parameters)
-unfolding elaborate elaborate_inside
-kernel_back d tree k e =
-    let named = checked_back (checks.when (may_name_kernel tree.name) checks.NameTwice tree.name_site (empty_scope d)) _ k e in
-    let outer = checked_back (declare_parameters (empty_scope d) tree.parameters) _ k named.2 in
-    let body = checked_back (elaborate_all InKernel outer.0 tree.body) _ k outer.2 in
-    let all = declared_all tree.parameters (empty_scope d) outer.0 outer.1 in
-    let q = made _ k body.2 in
-    (ap (λ m. m.arguments) (sym q) ∙ all.0, ap (λ m. m.buffers) (sym q) ∙ all.1)
-
--- that two lists of kinds are the same is so in one way
-abbrev kind_number : Kind → ℕ
-kind_number Int = 0
-kind_number Uint = 1
-kind_number Size = 2
-
-abbrev kind_numbered : ℕ → Kind
-kind_numbered zero = Int
-kind_numbered (suc zero) = Uint
-kind_numbered (suc (suc n)) = Size
-
-numbered_back : (k : Kind) → kind_numbered (kind_number k) ≡ k
-numbered_back Int = refl
-numbered_back Uint = refl
-numbered_back Size = refl
-
-coded_kind : Coded Kind
-coded_kind = code_by ℕ coded_ℕ kind_number kind_numbered numbered_back
-
-one_way : (a b : List Kind) → IsProp (a ≡ b)
-one_way a b = Coded-set (coded_list coded_kind) a b
-
--- whatever the devices
-pub elaborated_back : (tree : surface.Kernel) (k : Kernel) → IsElaborated tree k → (k.arguments ≡ kinds value_kind tree.parameters) × (k.buffers ≡ kinds buffer_kind tree.parameters)
-elaborated_back tree k e =
-    ∥∥₁_elim e (×_prop (one_way k.arguments (kinds value_kind tree.parameters)) (one_way k.buffers (kinds buffer_kind tree.parameters))) (λ x. kernel_back x.0 tree k x.1)
 
 -- a line that is read gives what fits its parameter's kind; of other parameters there is none
 pub record Skips {A : Type 0} (line : List A → Parameter → Option (Cursor → Step (A × Cursor))) (of : Parameter → Option Kind) (done : List A) (p : Parameter) : Type 0 where

@@ -1,31 +1,13 @@
--- The kinds of a kernel's value parameters and buffer parameters, in order, and launches with just these.
-use Rattle.std.specs.Prelude.{◌≡◌, ◌≤◌, ◌<◌, ◌^◌, true, List, [], ◌∷◌, Option, None, Some}
+-- Launches with just the parameters of a kernel.
+use Rattle.std.specs.Prelude.{◌≡◌, ◌≤◌, ◌<◌, ◌^◌, true, List, [], ◌∷◌}
 use Rattle.std.specs.List.{AllZip}
 use Rattle.semantics.specs.Word.{Kind, Word}
 use Rattle.semantics.specs.Launch.{IsCount, IsArgument}
 use Rattle.texts.specs.Identifiers.{is_identifier}
-use Rattle.texts.specs.Surface.{Parameter, Buffer, Value}
+use Rattle.texts.specs.Surface.{Parameter}
+use Rattle.kernel_names.specs.Parameters.{value_kind, buffer_kind, kinds}
 use Rattle.texts.specs.LaunchWords.{name_of}
 use Rattle.texts.specs.LaunchReading.{TypedLaunch, most_words, words_of}
-
--- the kind of a value parameter
-abbrev pub value_kind : Parameter → Option Kind
-value_kind (Buffer constant k site name) = None
-value_kind (Value k site name) = Some k
-
--- the kind of a buffer parameter's elements
-abbrev pub buffer_kind : Parameter → Option Kind
-buffer_kind (Buffer constant k site name) = Some k
-buffer_kind (Value k site name) = None
-
-abbrev pub onto : Option Kind → List Kind → List Kind
-onto None ks = ks
-onto (Some k) ks = k ∷ ks
-
--- the kinds of those parameters that have one, in order
-abbrev pub kinds : (Parameter → Option Kind) → List Parameter → List Kind
-kinds of [] = []
-kinds of (p ∷ ps) = onto (of p) (kinds of ps)
 
 -- names that the texts can spell
 abbrev pub AreNamed : List Parameter → Type 0

@@ -5,7 +5,7 @@ ghost use Rattle.semantics.specs.Launch.{Fits};
 ghost use Rattle.semantics.specs.Conditions.{ConditionsFit};
 ghost use Rattle.texts.specs.ConditionsReading as conditions;
 ghost use Rattle.texts.specs.LaunchReading as launches;
-ghost use Rattle.syntax.specs.View.{kernel as tree_of};
+ghost use Rattle.kernel_names.specs.View.{names_seen};
 ghost use Rattle.core_code.specs.View.{kernel as core_of};
 ghost use Rattle.launch.specs.View.{conditions as conditions_seen, launch as launch_seen};
 ghost use Rattle.launch_text.specs.Answers.{Gives};
@@ -27,12 +27,12 @@ pub fn read_conditions_as(
     text: &[u8],
     may_be_two: bool,
 ) -> Result<Conditions, LaunchTextError>
-    ensures value { Gives view.lined result (conditions.conditions_of may_be_two (tree_of typed.now.0).parameters text.now) }
+    ensures value { Gives view.lined result (conditions.conditions_of may_be_two (names_seen typed.now.0).parameters text.now) }
     ensures of { IfOk result (λ c. IsOf (core_of typed.now.1) (view.lined c)) }
     ensures fit { IfOk result (λ c. ConditionsFit (core_of typed.now.1) (conditions_seen c)) }
 {
-    let tree = typed.kernel();
-    let conditions = conditions_of(alloc, &tree.parameters, text, may_be_two)?;
+    let names = typed.names();
+    let conditions = conditions_of(alloc, &names.parameters, text, may_be_two)?;
     Ok(conditions)
 }
 
@@ -42,7 +42,7 @@ pub fn read_conditions(
     typed: &Typed,
     text: &[u8],
 ) -> Result<Conditions, LaunchTextError>
-    ensures value { Gives view.lined result (conditions.conditions_of false (tree_of typed.now.0).parameters text.now) }
+    ensures value { Gives view.lined result (conditions.conditions_of false (names_seen typed.now.0).parameters text.now) }
     ensures of { IfOk result (λ c. IsOf (core_of typed.now.1) (view.lined c)) }
     ensures fit { IfOk result (λ c. ConditionsFit (core_of typed.now.1) (conditions_seen c)) }
 {
@@ -51,10 +51,10 @@ pub fn read_conditions(
 
 /// The launch of a kernel that a text says, or its first fault. The text is gone through once.
 pub fn read_launch(alloc: Global, typed: &Typed, text: &[u8]) -> Result<Launch, LaunchTextError>
-    ensures value { Gives view.launch result (launches.launch_of (tree_of typed.now.0).parameters text.now) }
+    ensures value { Gives view.launch result (launches.launch_of (names_seen typed.now.0).parameters text.now) }
     ensures fit { IfOk result (λ l. Fits (core_of typed.now.1) (launch_seen l)) }
 {
-    let tree = typed.kernel();
-    let launch = launch_of(alloc, &tree.parameters, text)?;
+    let names = typed.names();
+    let launch = launch_of(alloc, &names.parameters, text)?;
     Ok(launch)
 }

@@ -5,7 +5,8 @@ ghost use Rattle.std.specs.List.{flat_map};
 ghost use Rattle.std.specs.String.{string_bytes};
 ghost use Rattle.words.specs.View.{word as word_seen};
 ghost use Rattle.texts.specs.LaunchText as text;
-ghost use Rattle.syntax.specs.View.{kernel as tree_of, parameter as parameter_of};
+ghost use Rattle.kernel_names.specs.View.{names_seen};
+ghost use Rattle.syntax.specs.View.{parameter as parameter_of};
 ghost use Rattle.launch_text.specs.View as view;
 
 use launch::launches::Buffers;
@@ -63,10 +64,10 @@ fn push_buffers(
 
 /// The text of a kernel's buffers: a line `buffer NAME list W W ..` for each buffer parameter.
 pub fn write_buffers(alloc: Global, typed: &Typed, buffers: &Buffers) -> Result<String, AllocError>
-    ensures { IfOk result (λ s. string_bytes s ≡ text.buffers_text (tree_of typed.now.0).parameters (view.buffers buffers.now.words)) }
+    ensures { IfOk result (λ s. string_bytes s ≡ text.buffers_text (names_seen typed.now.0).parameters (view.buffers buffers.now.words)) }
 {
-    let tree = typed.kernel();
+    let names = typed.names();
     let mut out = String::new(alloc);
-    push_buffers(&mut out, &tree.parameters, &buffers.words)?;
+    push_buffers(&mut out, &names.parameters, &buffers.words)?;
     Ok(out)
 }

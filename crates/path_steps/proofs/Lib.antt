@@ -17,3 +17,4 @@ pub mod Accessing
 pub mod Turning
 pub mod Collecting
 pub mod Listing
+pub mod Marking

@@ -1,6 +1,7 @@
 pub mod Paths
 pub mod Leads
 pub mod Before
+pub mod Marks
 pub mod Turns
 pub mod Without
 pub mod View

@@ -14,6 +14,7 @@ ghost use Rattle.path_steps.specs.Paths.{with_held};
 ghost use Rattle.path_steps.specs.Without.{element_without};
 ghost use Rattle.path_steps.specs.View.{followed, held_seen, invented_seen, narrowed_seen};
 
+use crate::marks::latest;
 use crate::path::{Invented, Narrowed, Path};
 use crate::setting::Setting;
 use domain::Domain;
@@ -57,26 +58,13 @@ fn known_element<D: Domain>(known: &Known<D>, news: &[Invented<D>], symbol: Symb
     }
 }
 
-/// The latest element of a symbol, or what was found before.
-fn latest<D: Domain>(found: D, narrowed: &[Narrowed<D>], symbol: Symbol) -> D
-    ensures { result ≡ held.latest found (map narrowed_seen narrowed.now) symbol.number }
-{
-    let mut element = found;
-    for one in narrowed {
-        if one.symbol.number == symbol.number {
-            element = one.element;
-        }
-    }
-    element
-}
-
 #[tactic(auto, unfolding(crate::specs::View::followed))]
 /// The element on the path of a symbol that is no product.
 fn element_held<D: Domain>(setting: &Setting<D>, path: &Path<D>, symbol: Symbol) -> D
     ensures { result ≡ held.element_held D.Domain (known_seen setting.now.known) (followed path.now).state.held symbol.number }
 {
     let found = known_element(&setting.known, path.news.as_slice(), symbol);
-    latest(found, path.narrowed.as_slice(), symbol)
+    path.marks.latest(found, path.narrowed.as_slice(), symbol)
 }
 
 /// The element of a factor, which is no product itself.
@@ -121,7 +109,7 @@ pub fn element_number<D: Domain>(setting: &Setting<D>, path: &Path<D>, symbol: S
 {
     if symbol.number % 16 == 15 {
         let found = element_of_product(setting, path, symbol.number / 16);
-        return latest(found, path.narrowed.as_slice(), symbol);
+        return path.marks.latest(found, path.narrowed.as_slice(), symbol);
     }
     element_held(setting, path, symbol)
 }

@@ -19,6 +19,7 @@ mod held;
 mod ids;
 mod joins;
 pub mod laws;
+mod marks;
 mod narrowing;
 mod path;
 mod ranges;
@@ -42,6 +43,7 @@ pub use halt::Halt;
 pub use held::{element_at, element_from, settles};
 pub use ids::id_form;
 pub use joins::{Differences, joined_differences, pick_joined};
+pub use marks::Marks;
 pub use narrowing::narrow;
 pub use path::{
     Access, Arrived, Choice, Claim, Goal, Invented, Narrowed, Path, Ranked, Shared, Sort, Spot,

@@ -3,7 +3,9 @@
 ghost use Rattle.std.specs.Prelude.{length};
 ghost use Rattle.std.specs.List.{All};
 ghost use Rattle.path_steps.specs.Before.{HasFacts, HasAll, EndHasAll};
+ghost use Rattle.path_steps.specs.Marks.{AreMarked};
 
+use crate::marks::Marks;
 use core_code::tree::{Array, Site};
 use linear::{Form, Symbol};
 use words::Kind;
@@ -152,6 +154,7 @@ pub struct Path<D> {
     pub given: Vec<Choice>,
     pub news: Vec<Invented<D>>,
     pub narrowed: Vec<Narrowed<D>>,
+    pub marks: Marks<D>,
     pub variables: Vec<Value>,
     pub ranks: Vec<Ranked>,
     pub quotients: Vec<Shared>,
@@ -159,4 +162,5 @@ pub struct Path<D> {
     pub ghost claims_in: { All (HasFacts (length facts.items)) claims.items },
     pub ghost accesses_in: { All (HasAll (length facts.items) (length news.items) (length narrowed.items)) accesses.items },
     pub ghost ends_in: { All (EndHasAll (length facts.items) (length news.items) (length narrowed.items)) ends.items },
+    pub ghost marked: { AreMarked marks narrowed.items },
 }

@@ -10,6 +10,7 @@ ghost use Rattle.path_steps.specs.Refusals.{Refused};
 ghost use Rattle.path_steps.specs.Leads.{Leads};
 ghost use Rattle.path_steps.specs.View.{followed, sort as sort_seen, spot as spot_seen, target as target_seen, goal_seen, shared_seen, choice as choice_seen, value as value_seen};
 
+use crate::marks::Marks;
 use crate::path::{
     Access, Choice, Claim, Goal, Invented, Narrowed, Path, Shared, Sort, Spot, Target, Value,
 };
@@ -29,6 +30,8 @@ impl<D: Copy> Path<D> {
     ) -> Path<D>
         ensures { followed result ≡ opening (forms facts.items) (map value_seen variables.items) (map choice_seen given.items) }
     {
+        let narrowed = Vec::new(alloc);
+        let marks = Marks::behind(alloc, narrowed.as_slice());
         Path {
             facts,
             claims: Vec::new(alloc),
@@ -38,7 +41,8 @@ impl<D: Copy> Path<D> {
             taken: Vec::new(alloc),
             given,
             news: Vec::new(alloc),
-            narrowed: Vec::new(alloc),
+            narrowed,
+            marks,
             variables,
             ranks: Vec::new(alloc),
             quotients: Vec::new(alloc),
@@ -128,7 +132,9 @@ impl<D: Copy> Path<D> {
     pub fn narrow(&mut self, symbol: Symbol, element: D) -> Result<(), WalkError>
         ensures { MatchResult result (λ _. followed self.new ≡ with_narrowed (followed self.old) symbol.number element) IsMemory }
     {
-        self.narrowed.push(Narrowed { symbol, element })?;
+        let next = Narrowed { symbol, element };
+        self.narrowed.push(next)?;
+        self.marks.mark(next, self.narrowed.as_slice());
         Ok(())
     }
 

@@ -21,7 +21,7 @@ use core_code::tree::Site;
 use domain::Domain;
 use facts::WalkError;
 use linear::Form;
-use path_steps::{Choice, Invented, Narrowed, Path, Spot, Value};
+use path_steps::{Choice, Invented, Marks, Narrowed, Path, Spot, Value};
 use std::alloc::Global;
 
 /// The facts, the values of variables, and what the domain holds, with which the paths of a place begin.
@@ -38,6 +38,7 @@ pub struct Root<D> {
 fn planted<D: Domain>(alloc: Global, root: Root<D>, claims: u32, given: Vec<Choice>) -> Path<D>
     ensures { followed result ≡ record { found = record { facts = forms root.known.items; claims = []; accesses = []; ends = []; count = claims; taken = []; left = map choice_seen given.items; is_fit = true; is_few = true }; state = record { claims = claims; variables = map value_seen root.variables.items; ranks = []; quotients = []; held = held_seen root.news.items root.narrowed.items; at = spot_of 0 } } }
 {
+    let marks = Marks::behind(alloc, root.narrowed.as_slice());
     Path {
         facts: root.known,
         claims: Vec::new(alloc),
@@ -48,6 +49,7 @@ fn planted<D: Domain>(alloc: Global, root: Root<D>, claims: u32, given: Vec<Choi
         given,
         news: root.news,
         narrowed: root.narrowed,
+        marks,
         variables: root.variables,
         ranks: Vec::new(alloc),
         quotients: Vec::new(alloc),

@@ -18,6 +18,7 @@ use Rattle.texts.proofs.CanonicalKernel.{kernel_related}
 use Rattle.texts.proofs.CanonicalStatements.{lex_kernel}
 use Rattle.texts.proofs.CanonicalText.{text_read, tokens_read_of}
 use Rattle.texts.proofs.Reading.{tokens_read}
+use Rattle.kernel_names.specs.NameMap.{names_of}
 use Rattle.parser.proofs.UniqueKernels.{kernel-unique}
 use Rattle.reading.specs.Kernels.{Kernel, Source, text_for, Read, read}
 use Rattle.reading.proofs.Grammatical.{read-sound, read-complete, read-tree}
@@ -75,24 +76,24 @@ tree-of : (s : Source) (k : Kernel) → read s ≡ Ok k → (ts : List Token) �
 tree-of s k h ts e = kernel_related k.tree 61 (lexemes ts) (read-printable s k h) (read-numbered s k h) (read-opens s k h) (kinds-kept ts ∙ e)
 
 said : (s : Source) (k : Kernel) → read s ≡ Ok k → (ts : List Token) → map (λ t. t.kind) ts ≡ kernel_tokens k.tree →
-    (l : Kernel) × IsKernel 64 (lexemes ts) l.tree × IsWithinLimits l.tree × (elaborate s.devices l.tree ≡ Ok l.core) × AreAlike l k
+    (l : Kernel) × IsKernel 64 (lexemes ts) l.tree × IsWithinLimits l.tree × (elaborate s.devices l.tree ≡ Ok l.core) × (l.names ≡ names_of l.tree) × AreAlike l k
 said s k h ts e =
     let t = read-sound s k h in
     let r = tree-of s k h ts e in
     let c = typed-alike s.devices k.tree r.0 k.core r.2 t.is_typed in
-    (record { tree = r.0; core = c.0 }, r.1, within-alike k.tree r.0 r.2 t.within_limits, c.1, record { tree = r.2; core = c.2 })
+    (record { tree = r.0; core = c.0; names = names_of r.0 }, r.1, within-alike k.tree r.0 r.2 t.within_limits, c.1, refl, record { tree = r.2; core = c.2 })
 
 pub read-says : (s : Source) (k : Kernel) → read s ≡ Ok k → (l : Kernel) × IsTextAtAnyLength (text_for s.devices (canonical k.tree)) l × AreAlike l k
 read-says s k h =
     let r = text_read k.tree (read-printable s k h) in
     let m = said s k h r.0 r.2 in
-    (m.0, record { tokens = r.0; are_tokens = r.1; in_grammar = m.1; within_limits = m.2; is_typed = m.3 }, m.4)
+    (m.0, record { tokens = r.0; are_tokens = r.1; in_grammar = m.1; within_limits = m.2; is_typed = m.3; is_named = m.4 }, m.5)
 
 pub read-back : (s : Source) (k : Kernel) → read s ≡ Ok k → length (canonical k.tree) ≤ 65536 → (l : Kernel) × (read (text_for s.devices (canonical k.tree)) ≡ Ok l) × AreAlike l k
 read-back s k h n =
     let r = tokens_read_of k.tree (read-printable s k h) n in
     let m = said s k h r.0 r.2 in
-    (m.0, read-complete (text_for s.devices (canonical k.tree)) m.0 (record { tokens = r.0; are_tokens = r.1; in_grammar = m.1; within_limits = m.2; is_typed = m.3 }), m.4)
+    (m.0, read-complete (text_for s.devices (canonical k.tree)) m.0 (record { tokens = r.0; are_tokens = r.1; in_grammar = m.1; within_limits = m.2; is_typed = m.3; is_named = m.4 }), m.5)
 
 -- what is read of a canonical text
 kernel-or : Kernel → Read → Kernel

@@ -7,6 +7,7 @@ use Rattle.texts.specs.KernelGrammar.{IsKernel}
 use Rattle.texts.specs.KernelLimits.{IsWithinLimits}
 use Rattle.texts.specs.Elaboration.{elaborate}
 use Rattle.texts.specs.Bare.{bare_kernel}
+use Rattle.kernel_names.specs.NameMap.{names_of}
 use Rattle.reading.specs.Kernels.{Kernel, Source}
 use Rattle.printer.specs.BareCore.{bare_core}
 
@@ -21,3 +22,4 @@ pub record IsTextAtAnyLength (s : Source) (k : Kernel) : Type 0 where
   pub in_grammar : IsKernel 64 (lexemes tokens) k.tree
   pub within_limits : IsWithinLimits k.tree
   pub is_typed : elaborate s.devices k.tree ≡ Ok k.core
+  pub is_named : k.names ≡ names_of k.tree

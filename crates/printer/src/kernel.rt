@@ -80,9 +80,9 @@ fn push_kernel(alloc: Global, out: &mut String, kernel: &Kernel) -> Result<(), A
 
 /// The canonical text of a kernel. The error is want of memory.
 pub fn print(alloc: Global, typed: &Typed) -> Result<String, AllocError>
-    ensures { IfOk result (λ text_made. string_bytes text_made ≡ text.canonical (view.kernel typed.now.0)) }
+    ensures { IfOk result (λ text_made. string_bytes text_made ≡ text.canonical (view.kernel typed.now.2)) }
 {
     let mut out = String::new(alloc);
-    push_kernel(alloc, &mut out, typed.kernel())?;
+    push_kernel(alloc, &mut out, typed.tree())?;
     Ok(out)
 }

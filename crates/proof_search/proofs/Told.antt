@@ -9,9 +9,8 @@ use Rattle.texts.specs.ConditionsText.{IsConditionsText}
 use Rattle.reading.specs.Kernels.{Kernel, Source}
 use Rattle.reading.specs.Texts.{IsTextOf}
 use Rattle.reading.specs.Answers.{kernel_seen}
-use Rattle.syntax.specs.View.{kernel as tree_seen}
-use Rattle.syntax.specs.declared.tree.Kernel as trees
-use Rattle.core_code.specs.declared.tree.Core.{Core}
+use Rattle.kernel_names.specs.View.{names_seen}
+use Rattle.types.specs.TypedKernel.{TypedKernel}
 use Rattle.launch.specs.View.{conditions as conditions_seen}
 use Rattle.launch.specs.declared.conditions.Conditions as code
 use Rattle.launch_text.specs.View.{lined}
@@ -22,25 +21,25 @@ use Rattle.proof_search.specs.Findings.{IsWitness, IsTrue, IsTrueOf}
 use Rattle.arrivals.specs.Loops.{unmet}
 use Rattle.core_code.specs.View.{kernel as core_seen, site as site_seen}
 use Rattle.core_code.specs.declared.tree.Site.{Site}
-use Rattle.syntax.specs.Sites.{site_at}
+use Rattle.kernel_names.specs.NameMap.{site_at}
 use Rattle.cert_check.specs.Refusing.{AreRead}
 use Rattle.cert_check.specs.declared.error.CheckError.TheVariants as checks
 use Rattle.proof_search.specs.Searching.{AreSearched, IsCount, IsNoCount, Ends, TellsOf}
 use Rattle.proof_search.specs.declared.error.VerifyError.{VerifyError}
 use Rattle.proof_search.specs.declared.error.VerifyError.TheVariants as errors
 
-module _ (is_wide : Bool) (kernel : Source) (conditions : List ℕ) (k : Kernel) (c : Conditions) (text : IsTextOf kernel k) (said : IsConditionsText is_wide k.tree.parameters conditions c) (f : Finding) where
+module _ (is_wide : Bool) (kernel : Source) (conditions : List ℕ) (k : Kernel) (c : Conditions) (text : IsTextOf kernel k) (said : IsConditionsText is_wide k.names.parameters conditions c) (f : Finding) where
   witnessed : (o : Option (List Event)) → IfSome o (λ events. (l : Launch) × IsWitness k c f l)
-      → IfSome o (λ events. (k : Kernel) × (c : Conditions) × IsTextOf kernel k × IsConditionsText is_wide k.tree.parameters conditions c × ((l : Launch) × IsWitness k c f l))
+      → IfSome o (λ events. (k : Kernel) × (c : Conditions) × IsTextOf kernel k × IsConditionsText is_wide k.names.parameters conditions c × ((l : Launch) × IsWitness k c f l))
   witnessed None h = tt
   witnessed (Some events) h = (k, c, text, said, h)
 
   is_true_of : IsTrue k c f → IsTrueOf is_wide kernel conditions f
   is_true_of h = witnessed f.schedule h
 
-module _ (is_wide : Bool) (t : trees.Kernel × Core) (c : code.Conditions) (workers : ℕ) (kernel : Source) (conditions : List ℕ) (text : IsTextOf kernel (kernel_seen t)) (said : IsConditionsText is_wide (tree_seen t.0).parameters conditions (meant (lined c))) (count : IsCount workers) (searched : AreSearched is_wide kernel conditions) where
-  same : IsConditionsText is_wide (tree_seen t.0).parameters conditions (conditions_seen c)
-  same = subst (IsConditionsText is_wide (tree_seen t.0).parameters conditions) (conditions_meant c) said
+module _ (is_wide : Bool) (t : TypedKernel) (c : code.Conditions) (workers : ℕ) (kernel : Source) (conditions : List ℕ) (text : IsTextOf kernel (kernel_seen t)) (said : IsConditionsText is_wide (names_seen t.0).parameters conditions (meant (lined c))) (count : IsCount workers) (searched : AreSearched is_wide kernel conditions) where
+  same : IsConditionsText is_wide (names_seen t.0).parameters conditions (conditions_seen c)
+  same = subst (IsConditionsText is_wide (names_seen t.0).parameters conditions) (conditions_meant c) said
 
   told : (e : VerifyError) → Ends t c e → TellsOf is_wide e workers kernel conditions
   told (errors.Check (checks.Kernel e)) h = absurd h
@@ -66,5 +65,5 @@ pub uncounted : (is_wide : Bool) (e : VerifyError) (workers : ℕ) (kernel : Sou
 uncounted is_wide e workers kernel conditions same count searched = subst (λ e. TellsOf is_wide e workers kernel conditions) (sym same) (count, searched)
 
 -- a loop that may miss its barrier
-pub none_placed : (is_wide : Bool) (t : trees.Kernel × Core) (found : Lined) (workers : ℕ) (kernel : Source) (conditions : List ℕ) (loop : ℕ) (site : Site) → AreRead is_wide t found kernel conditions → unmet (core_seen t.1).body ≡ Some loop → site_seen site ≡ site_at (tree_seen t.0) (Some loop) → TellsOf is_wide (errors.Check (checks.Missed site)) workers kernel conditions
+pub none_placed : (is_wide : Bool) (t : TypedKernel) (found : Lined) (workers : ℕ) (kernel : Source) (conditions : List ℕ) (loop : ℕ) (site : Site) → AreRead is_wide t found kernel conditions → unmet (core_seen t.1).body ≡ Some loop → site_seen site ≡ site_at (names_seen t.0) (Some loop) → TellsOf is_wide (errors.Check (checks.Missed site)) workers kernel conditions
 none_placed is_wide t found workers kernel conditions loop site read missed at = (t, found, loop, read, missed, at)

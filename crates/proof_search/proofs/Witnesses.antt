@@ -6,10 +6,9 @@ use Rattle.semantics.specs.Launch.{Launch, Fits}
 use Rattle.semantics.specs.World.{Event}
 use Rattle.reading.specs.Kernels.{Kernel}
 use Rattle.reading.specs.Answers.{kernel_seen}
-use Rattle.syntax.specs.View.{kernel as tree_seen}
-use Rattle.syntax.specs.declared.tree.Kernel as trees
+use Rattle.kernel_names.specs.View.{names_seen}
+use Rattle.types.specs.TypedKernel.{TypedKernel}
 use Rattle.core_code.specs.View.{kernel as core_seen}
-use Rattle.core_code.specs.declared.tree.Core.{Core}
 use Rattle.launch.specs.View.{conditions as conditions_seen, launch as launch_seen}
 use Rattle.launch.specs.declared.conditions.Conditions as code
 use Rattle.launch.specs.declared.launches.Launch as launches
@@ -24,14 +23,14 @@ scheduled : (k : Kernel) (c : Conditions) (f : Finding) (l : Launch) → IsWitne
 scheduled k c f l w None = tt
 scheduled k c f l w (Some events) = (l, w)
 
-module _ (t : trees.Kernel × Core) (c : code.Conditions) (l : launches.Launch) (fits : Fits (core_seen t.1) (launch_seen l)) (meets : Meets (conditions_seen c) (launch_seen l)) where
-  of_finding : (f : findings.Finding) → IsConfirmed (setup_of t.1 l) (tree_seen t.0) (finding_seen f) → IsTrue (kernel_seen t) (conditions_seen c) (finding_seen f)
+module _ (t : TypedKernel) (c : code.Conditions) (l : launches.Launch) (fits : Fits (core_seen t.1) (launch_seen l)) (meets : Meets (conditions_seen c) (launch_seen l)) where
+  of_finding : (f : findings.Finding) → IsConfirmed (setup_of t.1 l) (names_seen t.0) (finding_seen f) → IsTrue (kernel_seen t) (conditions_seen c) (finding_seen f)
   of_finding f h = scheduled (kernel_seen t) (conditions_seen c) (finding_seen f) (launch_seen l) (record { fits = fits; meets = meets; shown = h }) (finding_seen f).schedule
 
-  of_option : (o : Option findings.Finding) → IfSome o (λ f. IsConfirmed (setup_of t.1 l) (tree_seen t.0) (finding_seen f)) → IfSome o (λ f. IsTrue (kernel_seen t) (conditions_seen c) (finding_seen f))
+  of_option : (o : Option findings.Finding) → IfSome o (λ f. IsConfirmed (setup_of t.1 l) (names_seen t.0) (finding_seen f)) → IfSome o (λ f. IsTrue (kernel_seen t) (conditions_seen c) (finding_seen f))
   of_option None h = tt
   of_option (Some f) h = of_finding f h
 
-  pub of_answer : (r : Result (Option findings.Finding) AllocError) → IfOk r (λ o. IfSome o (λ f. IsConfirmed (setup_of t.1 l) (tree_seen t.0) (finding_seen f))) → IfOk r (λ o. IfSome o (λ f. IsTrue (kernel_seen t) (conditions_seen c) (finding_seen f)))
+  pub of_answer : (r : Result (Option findings.Finding) AllocError) → IfOk r (λ o. IfSome o (λ f. IsConfirmed (setup_of t.1 l) (names_seen t.0) (finding_seen f))) → IfOk r (λ o. IfSome o (λ f. IsTrue (kernel_seen t) (conditions_seen c) (finding_seen f)))
   of_answer (Ok o) h = of_option o h
   of_answer (Err e) h = tt

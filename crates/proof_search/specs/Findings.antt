@@ -8,8 +8,7 @@ use Rattle.texts.specs.ConditionsText.{IsConditionsText}
 use Rattle.reading.specs.Kernels.{Kernel, Source}
 use Rattle.reading.specs.Texts.{IsTextOf}
 use Rattle.reading.specs.Answers.{kernel_seen}
-use Rattle.syntax.specs.declared.tree.Kernel as trees
-use Rattle.core_code.specs.declared.tree.Core.{Core}
+use Rattle.types.specs.TypedKernel.{TypedKernel}
 use Rattle.launch.specs.View.{conditions as conditions_seen}
 use Rattle.launch.specs.declared.conditions.Conditions as code
 use Rattle.findings.specs.Findings.{Finding}
@@ -21,7 +20,7 @@ use Rattle.findings.specs.declared.finding.Finding as findings
 pub record IsWitness (k : Kernel) (c : Conditions) (f : Finding) (l : Launch) : Type 0 where
   pub fits : Fits k.core l
   pub meets : Meets c l
-  pub shown : IsConfirmed (at_launch k.core l) k.tree f
+  pub shown : IsConfirmed (at_launch k.core l) k.names f
 
 -- what is confirmed has such a launch; of what is possible nothing is said
 abbrev pub IsTrue : Kernel → Conditions → Finding → Type 0
@@ -31,10 +30,10 @@ IsTrue k c f = IfSome f.schedule (λ events. (l : Launch) × IsWitness k c f l)
 -- search is the wide one
 abbrev pub IsTrueOf : (is_wide : Bool) → (kernel : Source) (conditions : List ℕ) → Finding → Type 0
 IsTrueOf is_wide kernel conditions f =
-    IfSome f.schedule (λ events. (k : Kernel) × (c : Conditions) × IsTextOf kernel k × IsConditionsText is_wide k.tree.parameters conditions c × ((l : Launch) × IsWitness k c f l))
+    IfSome f.schedule (λ events. (k : Kernel) × (c : Conditions) × IsTextOf kernel k × IsConditionsText is_wide k.names.parameters conditions c × ((l : Launch) × IsWitness k c f l))
 
 -- as code has them
-abbrev pub AreTrue : trees.Kernel × Core → code.Conditions → List findings.Finding → Type 0
+abbrev pub AreTrue : TypedKernel → code.Conditions → List findings.Finding → Type 0
 AreTrue t c fs = All (λ f. IsTrue (kernel_seen t) (conditions_seen c) (finding_seen f)) fs
 
 abbrev pub AreTrueOf : (is_wide : Bool) → (kernel : Source) (conditions : List ℕ) → List findings.Finding → Type 0

@@ -2,8 +2,7 @@
 use Rattle.reading.specs.Kernels.{Source}
 use Rattle.std.specs.Prelude.{◌<◌, ◌≤◌, ◌⊎◌, ◌≡◌, ℕ, List, [], Bool, true, false, cond}
 use Rattle.texts.specs.ConditionsReading.{Lined}
-use Rattle.syntax.specs.declared.tree.Kernel as trees
-use Rattle.core_code.specs.declared.tree.Core.{Core}
+use Rattle.types.specs.TypedKernel.{TypedKernel}
 use Rattle.launch.specs.declared.conditions.Conditions as code
 use Rattle.certificate_text.specs.Certificate.{Certificate}
 use Rattle.certificate_text.specs.NumberedText.{text_of_two, text_of_four}
@@ -17,7 +16,7 @@ use Rattle.proof_search.specs.declared.error.VerifyError.TheVariants as errors
 -- the kernel and the conditions are read, and each loop with a barrier meets one on each way through: what stands before a search;
 -- conditions of version 2 are read where the search is the wide one
 abbrev pub AreSearched : (is_wide : Bool) → (kernel : Source) (conditions : List ℕ) → Type 0
-AreSearched is_wide kernel conditions = (typed : trees.Kernel × Core) × (found : Lined) × AreRead is_wide typed found kernel conditions × AreMet typed
+AreSearched is_wide kernel conditions = (typed : TypedKernel) × (found : Lined) × AreRead is_wide typed found kernel conditions × AreMet typed
 
 -- 1 to 64
 abbrev pub IsCount : (workers : ℕ) → Type 0
@@ -45,7 +44,7 @@ TellsOf is_wide errors.TooLong workers kernel conditions = IsCount workers × Ar
 TellsOf is_wide errors.Memory workers kernel conditions = Unit {0}
 
 -- where the search of a kernel under conditions ends with nothing: it tells of no text
-abbrev pub Ends : trees.Kernel × Core → code.Conditions → VerifyError → Type 0
+abbrev pub Ends : TypedKernel → code.Conditions → VerifyError → Type 0
 Ends t c (errors.Check (checks.Kernel e)) = ⊥
 Ends t c (errors.Check (checks.Conditions e)) = ⊥
 Ends t c (errors.Check (checks.Missed site)) = ⊥

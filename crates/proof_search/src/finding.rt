@@ -2,8 +2,7 @@
 
 ghost use Rattle.std.specs.Prelude.{◌≡◌, ℕ, List, Bool, true, false, IfOk, IfErr, IfSome, MatchResult};
 ghost use Rattle.core_code.specs.View.{kernel as core_seen};
-ghost use Rattle.core_code.specs.declared.tree.Core.{Core};
-ghost use Rattle.syntax.specs.declared.tree.Kernel as trees;
+ghost use Rattle.types.specs.TypedKernel.{TypedKernel};
 ghost use Rattle.launch.specs.declared.conditions.Conditions as code;
 ghost use Rattle.launch_text.specs.Fits.{IsOf};
 ghost use Rattle.launch_text.specs.View.{lined};
@@ -29,6 +28,7 @@ use certificate::{Certificate, LIMIT, write, write_wide};
 use certificate_search::{Missing, SearchError, Unwatched, Watcher, search};
 use facts::WalkError;
 use guess_walk::Subject;
+use kernel_names::site_at;
 use launch::conditions::Conditions;
 use launch_text::laws::what_is_read_of_conditions_is_their_text;
 use launch_text::read_conditions_as;
@@ -38,7 +38,6 @@ use reading::{Source, narrow, read_source};
 use shown_kernels::proper::what_is_read_is_proper;
 use std::alloc::{AllocError, Global};
 use std::thread::Threads;
-use syntax::site_at;
 use types::typed::Typed;
 use walk::FindError;
 
@@ -51,11 +50,11 @@ pub struct Found {
 
 /// The refusal of a kernel whose places cannot be walked to an end.
 fn unwalked(typed: &Typed, error: FindError) -> VerifyError
-    ensures { (t : trees.Kernel × Core) (c : code.Conditions) → Ends t c result }
+    ensures { (t : TypedKernel) (c : code.Conditions) → Ends t c result }
 {
     match error {
         FindError::ManyPaths(statement) => {
-            VerifyError::Check(CheckError::ManyPaths(site_at(typed.kernel(), statement)))
+            VerifyError::Check(CheckError::ManyPaths(site_at(typed.names(), statement)))
         }
         FindError::Walk(WalkError::Memory) => VerifyError::Memory,
         FindError::Walk(error) => VerifyError::Check(CheckError::Show(ShowError::Walk(error))),
@@ -99,7 +98,7 @@ fn unplaced(typed: &Typed, error: PlaceError) -> VerifyError
 {
     match error {
         PlaceError::Missed(number) => {
-            VerifyError::Check(CheckError::Missed(site_at(typed.kernel(), Some(number))))
+            VerifyError::Check(CheckError::Missed(site_at(typed.names(), Some(number))))
         }
         PlaceError::Memory => VerifyError::Memory,
     }
@@ -119,7 +118,7 @@ fn counted(workers: u32) -> Result<(), VerifyError>
 /// A certificate with its text, of at most so many bytes as are read.
 fn with_text(alloc: Global, certificate: Certificate) -> Result<Found, VerifyError>
     ensures written { IfOk result (λ f. f.text.items ≡ text_of_two (certificate_seen f.certificate)) }
-    ensures ends { IfErr result (λ e. (t : trees.Kernel × Core) (c : code.Conditions) → Ends t c e) }
+    ensures ends { IfErr result (λ e. (t : TypedKernel) (c : code.Conditions) → Ends t c e) }
 {
     let Ok(text) = write(alloc, &certificate) else {
         return Err(VerifyError::Memory);
@@ -144,7 +143,7 @@ fn any_text(alloc: Global, certificate: &Certificate) -> Result<Vec<u8>, AllocEr
 /// A certificate with its text, of version 4 where its walk is the wide one, of at most so many bytes as are read.
 fn with_any_text(alloc: Global, certificate: Certificate) -> Result<Found, VerifyError>
     ensures written { IfOk result (λ f. f.text.items ≡ text_found (certificate_seen f.certificate)) }
-    ensures ends { IfErr result (λ e. (t : trees.Kernel × Core) (c : code.Conditions) → Ends t c e) }
+    ensures ends { IfErr result (λ e. (t : TypedKernel) (c : code.Conditions) → Ends t c e) }
 {
     let Ok(text) = any_text(alloc, &certificate) else {
         return Err(VerifyError::Memory);

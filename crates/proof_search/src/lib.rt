@@ -7,9 +7,11 @@
 
 mod error;
 mod finding;
+mod leaving;
 mod shortfall;
 mod widening;
 
 pub use certificate_search::{Progress, Unwatched, Watcher};
 pub use error::VerifyError;
 pub use finding::{Effort, Found, find, find_watched};
+pub use leaving::{Left, left_by};

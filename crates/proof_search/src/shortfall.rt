@@ -2,8 +2,7 @@
 
 ghost use Rattle.std.specs.Prelude.{◌≡◌, true, None, IfOk, IfSome, OnOk};
 ghost use Rattle.core_code.specs.View.{kernel as core_seen};
-ghost use Rattle.core_code.specs.declared.tree.Core.{Core};
-ghost use Rattle.syntax.specs.declared.tree.Kernel as trees;
+ghost use Rattle.types.specs.TypedKernel.{TypedKernel};
 ghost use Rattle.launch.specs.declared.conditions.Conditions as code;
 ghost use Rattle.launch.specs.View.{conditions as conditions_seen};
 ghost use Rattle.launch_text.specs.Fits.{IsOf};
@@ -15,12 +14,12 @@ ghost use Rattle.proof_search.specs.Findings.{IsTrue, AreTrue};
 
 use certificate_search::{Mark, Missing};
 use diagnostics::{Finding, Spot, confirm, possible};
+use kernel_names::site_at;
 use launch::conditions::Conditions;
 use launch::probe::probe;
 use launch_text::laws::a_least_launch_fits;
 use path_steps::Sort;
 use std::alloc::{AllocError, Global};
-use syntax::site_at;
 use types::typed::Typed;
 use words::{Fault, Kind};
 
@@ -51,8 +50,8 @@ fn spot_of(typed: &Typed, mark: Mark) -> Spot {
         Mark::Store(site) => Spot::Store(site),
         Mark::Load(site) => Spot::Load(site),
         Mark::At(site) => Spot::At(site),
-        Mark::Barrier(number) => Spot::Barrier(site_at(typed.kernel(), Some(number))),
-        Mark::Loop(number) => Spot::At(site_at(typed.kernel(), Some(number))),
+        Mark::Barrier(number) => Spot::Barrier(site_at(typed.names(), Some(number))),
+        Mark::Loop(number) => Spot::At(site_at(typed.names(), Some(number))),
         Mark::End => Spot::End,
     }
 }
@@ -75,7 +74,7 @@ fn suspected(alloc: Global, typed: &Typed, missing: Missing) -> Result<Option<Fi
 /// One more that is only possible, where it is not like one that is there, and there are not too many.
 fn push_new(all: &mut Vec<Finding>, finding: Finding) -> Result<(), AllocError>
     requires { (finding_seen finding).schedule ≡ None }
-    ensures { OnOk result ((t : trees.Kernel × Core) (c : code.Conditions) → AreTrue t c all.old.items → AreTrue t c all.new.items) }
+    ensures { OnOk result ((t : TypedKernel) (c : code.Conditions) → AreTrue t c all.old.items → AreTrue t c all.new.items) }
 {
     if all.len() >= MOST || all.iter().any(|other| other.is_like(&finding)) {
         return Ok(());
@@ -126,7 +125,7 @@ fn push_suspect(
     missing: Missing,
     all: &mut Vec<Finding>,
 ) -> Result<(), AllocError>
-    ensures { OnOk result ((t : trees.Kernel × Core) (c : code.Conditions) → AreTrue t c all.old.items → AreTrue t c all.new.items) }
+    ensures { OnOk result ((t : TypedKernel) (c : code.Conditions) → AreTrue t c all.old.items → AreTrue t c all.new.items) }
 {
     match suspected(alloc, typed, missing)? {
         Some(finding) => push_new(all, finding),
@@ -141,12 +140,23 @@ fn push_suspects(
     missing: &[Missing],
     all: &mut Vec<Finding>,
 ) -> Result<(), AllocError>
-    ensures { OnOk result ((t : trees.Kernel × Core) (c : code.Conditions) → AreTrue t c all.old.items → AreTrue t c all.new.items) }
+    ensures { OnOk result ((t : TypedKernel) (c : code.Conditions) → AreTrue t c all.old.items → AreTrue t c all.new.items) }
 {
     for one in missing {
         push_suspect(alloc, typed, *one, all)?;
     }
     Ok(())
+}
+
+/// The findings of obligations that are not shown, at most 16, which are only possible.
+pub fn suspects_of(
+    alloc: Global,
+    typed: &Typed,
+    missing: &[Missing],
+) -> Result<Vec<Finding>, AllocError> {
+    let mut all = Vec::new(alloc);
+    push_suspects(alloc, typed, missing, &mut all)?;
+    Ok(all)
 }
 
 /// The findings of obligations that are not shown, at most 16: the one that a replay confirms first, in the place of its like, then those

@@ -15,6 +15,7 @@ use Rattle.parser.specs.Parsed.{Parsed, parsed}
 use Rattle.parser.proofs.Exact.{parsed-sound}
 use Rattle.parser.proofs.TextTrees.{text-tree}
 use Rattle.parser.proofs.Truth.{parsed-complete}
+use Rattle.kernel_names.specs.NameMap.{NameMap}
 use Rattle.reading.specs.Kernels.{Kernel, Source, Read, of_types, of_tree, of_tokens, read}
 use Rattle.reading.specs.Texts.{IsTextOf}
 
@@ -35,7 +36,7 @@ unfolding is-ok or-else
 typed source k tokens tree (Err e) q p t h = absurd (refused (of_types tree (Err e)) k refl h)
 typed source k tokens tree (Ok core) q p t h =
     let g = parsed-sound (lexemes tokens) tree (lexemes_ended source.bytes tokens q).0 p in
-    subst (IsTextOf source) (ap (or-else k) h) (record { tokens = tokens; are_tokens = q; in_grammar = g.0; within_limits = g.1; is_typed = t })
+    subst (IsTextOf source) (ap (or-else k) h) (record { tokens = tokens; are_tokens = q; in_grammar = g.0; within_limits = g.1; is_typed = t; is_named = refl })
 
 treed : (source : Source) (k : Kernel) (tokens : List Token) (p : Parsed) → tokens_of source.bytes ≡ Ok tokens → parsed (lexemes tokens) ≡ p → of_tree source.devices p ≡ Ok k → IsTextOf source k
 unfolding is-ok
@@ -50,10 +51,14 @@ read-sound source k h = by (tokens_of source.bytes) refl h
     by (Err e) q h = absurd (refused (of_tokens source.devices (Err e)) k refl h)
     by (Ok tokens) q h = treed source k tokens (parsed (lexemes tokens)) q refl h
 
+-- a kernel with other names
+abbrev named : Kernel → NameMap → Read
+named k m = Ok (record { tree = k.tree; core = k.core; names = m })
+
 pub read-complete : (source : Source) (k : Kernel) → IsTextOf source k → read source ≡ Ok k
 unfolding read
 read-complete source k t =
-    ap (of_tokens source.devices) t.are_tokens ∙ ap (of_tree source.devices) (parsed-complete (lexemes t.tokens) k.tree (lexemes_ended source.bytes t.tokens t.are_tokens).1 t.in_grammar t.within_limits) ∙ ap (of_types k.tree) t.is_typed
+    ap (of_tokens source.devices) t.are_tokens ∙ ap (of_tree source.devices) (parsed-complete (lexemes t.tokens) k.tree (lexemes_ended source.bytes t.tokens t.are_tokens).1 t.in_grammar t.within_limits) ∙ ap (of_types k.tree) t.is_typed ∙ ap (named k) (sym t.is_named)
 
 pub read-tree : (source : Source) (k : Kernel) → read source ≡ Ok k → IsTextTree k.tree
 read-tree source k h = let t = read-sound source k h in text-tree 64 (lexemes t.tokens) k.tree (lexemes_spelt source.bytes t.tokens t.are_tokens) t.in_grammar

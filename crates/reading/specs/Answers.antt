@@ -7,17 +7,17 @@ use Rattle.parser.specs.Parsed as parsed
 use Rattle.parser.specs.declared.error.ParseError.TheVariants as trees
 use Rattle.syntax.specs.View.{kernel}
 use Rattle.core_code.specs.View.{site}
-use Rattle.syntax.specs.declared.tree.Kernel as tree
+use Rattle.types.specs.TypedKernel.{TypedKernel}
+use Rattle.kernel_names.specs.View.{names_seen}
 use Rattle.types.specs.Answers as types
 use Rattle.core_code.specs.View as core
-use Rattle.core_code.specs.declared.tree.Core.{Core}
 use Rattle.types.specs.declared.error.TypeError.TheVariants as typing
 use Rattle.reading.specs.Kernels.{Kernel, Read, OfText, OfTree, OfTypes}
 use Rattle.reading.specs.declared.KernelError.{KernelError}
 use Rattle.reading.specs.declared.KernelError.TheVariants as errors
 
-abbrev pub kernel_seen : tree.Kernel × Core → Kernel
-kernel_seen (tree, found) = record { tree = kernel tree; core = core.kernel found }
+abbrev pub kernel_seen : TypedKernel → Kernel
+kernel_seen (names, found, tree) = record { tree = kernel tree; core = core.kernel found; names = names_seen names }
 
 -- an error is the definition's, unless memory was refused
 abbrev pub Refuses : KernelError → Read → Type 0
@@ -26,7 +26,7 @@ Refuses (errors.Tree (trees.At f s)) answer = answer ≡ Err (OfTree (parser.fau
 Refuses (errors.Types (typing.At f s)) answer = answer ≡ Err (OfTypes (types.fault f), site s)
 Refuses error answer = Unit {0}
 
-abbrev pub Gives : Result (tree.Kernel × Core) KernelError → Read → Type 0
+abbrev pub Gives : Result TypedKernel KernelError → Read → Type 0
 Gives (Ok typed) answer = answer ≡ Ok (kernel_seen typed)
 Gives (Err error) answer = Refuses error answer
 

@@ -1,4 +1,4 @@
--- What the bytes of a kernel's text say where it is read for some devices: its tree and its core, or the first fault with its place: of the
+-- What the bytes of a kernel's text say where it is read for some devices: its tree, its core and its map of names, or the first fault with its place: of the
 -- text, else of the tree, else of its types.
 use Rattle.std.specs.Prelude.{ℕ, List, Result, Ok, Err}
 use Rattle.semantics.specs.Launch as launch
@@ -11,6 +11,7 @@ use Rattle.texts.specs.Lexemes.{lexemes}
 use Rattle.texts.specs.Surface as surface
 use Rattle.texts.specs.Scope.{Devices}
 use Rattle.texts.specs.Elaboration.{elaborate}
+use Rattle.kernel_names.specs.NameMap.{NameMap, names_of}
 use Rattle.parser.specs.Parsed.{Parsed, parsed}
 
 -- a kernel's text, and the devices that it is read for
@@ -29,12 +30,13 @@ pub data Fault : Type 0 where
 pub record Kernel : Type 0 where
   pub tree : surface.Kernel
   pub core : launch.Kernel
+  pub names : NameMap
 
 abbrev pub Read : Type 0
 Read = Result Kernel (Fault × Site)
 
 abbrev pub of_types : surface.Kernel → Checked launch.Kernel → Read
-of_types tree (Ok core) = Ok (record { tree = tree; core = core })
+of_types tree (Ok core) = Ok (record { tree = tree; core = core; names = names_of tree })
 of_types tree (Err (fault, site)) = Err (OfTypes fault, site)
 
 abbrev pub of_tree : Devices → Parsed → Read

@@ -1,5 +1,6 @@
 -- The text of a kernel of four stores.
 use Rattle.std.specs.Prelude.{ℕ, List, [], ◌∷◌, ◌++◌, Ok, Err, codes}
+use Rattle.kernel_names.specs.NameMap.{only}
 use Rattle.reading.specs.Kernels.{Kernel, Read}
 use Rattle.texts.specs.Surface as surface
 use Rattle.semantics.specs.Core as core
@@ -19,4 +20,5 @@ kernel_of (Ok k) = k
 kernel_of (Err e) = record {
   tree = record { name = []; name_site = record { line = 0; column = 0 }; sizes = record { x = 1; y = 1; z = 1 }; parameters = []; body = surface.none };
   core = record { sizes = record { x = 1; y = 1; z = 1 }; arguments = []; variables = []; buffers = []; arrays = []; body = core.none };
+  names = only [];
 }

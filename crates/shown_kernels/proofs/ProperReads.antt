@@ -14,8 +14,7 @@ use Rattle.reading.proofs.Grammatical.{read-sound, read-tree}
 use Rattle.work_item.specs.Proper.{are_sizes, are_proper, is_proper}
 use Rattle.shown_kernels.proofs.Holding.{Holds, then-any, held, both}
 use Rattle.core_code.specs.View.{kernel}
-use Rattle.core_code.specs.declared.tree.Core.{Core}
-use Rattle.syntax.specs.declared.tree.Kernel as tree
+use Rattle.types.specs.TypedKernel.{TypedKernel}
 use Rattle.reading.specs.Answers.{Gives, kernel_seen}
 use Rattle.reading.specs.declared.KernelError.{KernelError}
 use Rattle.shown_kernels.proofs.Elaborating.{elaborated-proper}
@@ -51,6 +50,6 @@ read-proper s k h =
     (subst (λ n. are_sizes n ≡ true) (sym (held (λ (x : launch.Kernel). x.sizes ≡ k.tree.sizes) (elaborate s.devices k.tree) k.core t.is_typed (core-sizes s.devices k.tree))) (sizes-fit k.tree.sizes z.0 z.1 z.2 z.3))
     (elaborated-proper s.devices k.tree k.core (read-tree s k h).body t.is_typed)
 
-pub answers_proper : (r : Result (tree.Kernel × Core) KernelError) (s : Source) → Gives r (read s) → IfOk r (λ t. is_proper (kernel t.1) ≡ true)
+pub answers_proper : (r : Result TypedKernel KernelError) (s : Source) → Gives r (read s) → IfOk r (λ t. is_proper (kernel t.1) ≡ true)
 answers_proper (Ok t) s h = read-proper s (kernel_seen t) h
 answers_proper (Err e) s h = tt

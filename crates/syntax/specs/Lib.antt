@@ -1,2 +1,1 @@
-pub mod Sites
 pub mod View

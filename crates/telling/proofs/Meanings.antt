@@ -16,10 +16,9 @@ use Rattle.texts.specs.LaunchReading.{number}
 use Rattle.texts.specs.LaunchText.{buffers_text}
 use Rattle.words.specs.View.{word, value_of}
 use Rattle.words.specs.declared.word.Word.{Word}
-use Rattle.syntax.specs.View.{kernel as tree_seen}
-use Rattle.syntax.specs.declared.tree.Kernel.{Kernel}
+use Rattle.kernel_names.specs.View.{names_seen}
+use Rattle.types.specs.TypedKernel.{TypedKernel}
 use Rattle.core_code.specs.View.{kernel as core_seen}
-use Rattle.core_code.specs.declared.tree.Core.{Core}
 use Rattle.launch.specs.View.{conditions as conditions_seen, launch as launch_seen, buffer}
 use Rattle.launch.specs.declared.conditions.Conditions.{Conditions}
 use Rattle.launch.specs.declared.launches.Launch.{Launch}
@@ -42,18 +41,18 @@ rows_seen : (bs : List (Vec Word Global)) → map (map number) (map view.words b
 rows_seen [] = refl
 rows_seen (b ∷ bs) = ap (λ x. x ∷ map (map number) (map view.words bs)) (row_seen b.items) ∙ ap (λ xs. buffer b ∷ xs) (rows_seen bs)
 
-pub is_safe : (is_wide : Bool) (kernel : Source) (conditions : List ℕ) (t : Kernel × Core) (c : Conditions) → IsTextOf kernel (kernel_seen t) → IsConditionsText is_wide (tree_seen t.0).parameters conditions (meant (lined c)) → HasHeadline (core_seen t.1) (conditions_seen c)
+pub is_safe : (is_wide : Bool) (kernel : Source) (conditions : List ℕ) (t : TypedKernel) (c : Conditions) → IsTextOf kernel (kernel_seen t) → IsConditionsText is_wide (names_seen t.0).parameters conditions (meant (lined c)) → HasHeadline (core_seen t.1) (conditions_seen c)
     → AreSafeTexts is_wide kernel conditions (kernel_seen t) (conditions_seen c)
-is_safe is_wide kernel conditions t c text said h = record { kernel_text = text; conditions_text = subst (IsConditionsText is_wide (tree_seen t.0).parameters conditions) (conditions_meant c) said; headline = h }
+is_safe is_wide kernel conditions t c text said h = record { kernel_text = text; conditions_text = subst (IsConditionsText is_wide (names_seen t.0).parameters conditions) (conditions_meant c) said; headline = h }
 
-pub is_run : (t : Kernel × Core) (c : Conditions) (launch written : List ℕ) (l : Launch) (b : Buffers) → IsLaunchText (tree_seen t.0).parameters launch (given.meant (view.launch l)) → Fits (core_seen t.1) (launch_seen l)
+pub is_run : (t : TypedKernel) (c : Conditions) (launch written : List ℕ) (l : Launch) (b : Buffers) → IsLaunchText (names_seen t.0).parameters launch (given.meant (view.launch l)) → Fits (core_seen t.1) (launch_seen l)
     → Meets (conditions_seen c) (launch_seen l) → ((w : Width) → IsDefined (on_device w (at_launch (core_seen t.1) (launch_seen l))) c.budget) → ((w : Width) → IsResultOf (on_device w (at_launch (core_seen t.1) (launch_seen l))) c.budget (words_of b))
-    → ((w : Width) → EndsEvery (on_device w (at_launch (core_seen t.1) (launch_seen l))) (words_of b)) → HaveKinds (core_seen t.1).buffers (view.buffers b.words) → written ≡ buffers_text (tree_seen t.0).parameters (view.buffers b.words) → IsRun (kernel_seen t) (conditions_seen c) launch written (launch_seen l) (view.buffers b.words)
+    → ((w : Width) → EndsEvery (on_device w (at_launch (core_seen t.1) (launch_seen l))) (words_of b)) → HaveKinds (core_seen t.1).buffers (view.buffers b.words) → written ≡ buffers_text (names_seen t.0).parameters (view.buffers b.words) → IsRun (kernel_seen t) (conditions_seen c) launch written (launch_seen l) (view.buffers b.words)
 is_run t c launch written l b said fits meets defined result every kinds text =
     let k = core_seen t.1 in
     let n = sym (rows_seen b.words.items) in
     record {
-      launch_text = subst (IsLaunchText (tree_seen t.0).parameters launch) (launch_meant l) said;
+      launch_text = subst (IsLaunchText (names_seen t.0).parameters launch) (launch_meant l) said;
       fits = fits;
       meets = meets;
       defined = defined;

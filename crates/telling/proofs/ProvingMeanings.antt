@@ -5,8 +5,7 @@ use Rattle.std.specs.Prelude.{ℕ, List, Bool, Option, Some, None, IfSome}
 use Rattle.semantics.specs.Launch as launches
 use Rattle.semantics.specs.Launch.{Launch, Fits}
 use Rattle.semantics.specs.Conditions.{Conditions, Meets}
-use Rattle.syntax.specs.declared.tree.Kernel.{Kernel}
-use Rattle.core_code.specs.declared.tree.Core.{Core}
+use Rattle.types.specs.TypedKernel.{TypedKernel}
 use Rattle.reading.specs.Answers.{kernel_seen}
 use Rattle.cert_check.specs.Refusing.{IsPassedBy, RefusesBy}
 use Rattle.cert_check.specs.Numbers as checks
@@ -18,7 +17,7 @@ use Rattle.telling.specs.Proving.{IsProof, IsUnproved}
 use Rattle.telling.specs.Telling.{IsAcceptedText}
 use Rattle.telling.specs.ProvingVerdicts.{GoesOn, GoesFurther, IsProvedBySome, Explains, ExplainsCheck}
 
-pub is_proof : (is_wide : Bool) (t : Kernel × Core) (c : Conditions) (certificate : List ℕ) → IsPassedBy is_wide t c certificate → IsProof is_wide (kernel_seen t) c certificate
+pub is_proof : (is_wide : Bool) (t : TypedKernel) (c : Conditions) (certificate : List ℕ) → IsPassedBy is_wide t c certificate → IsProof is_wide (kernel_seen t) c certificate
 is_proof is_wide t c certificate (met, cert, n, is, said, passes) = (met, cert, is, (n, said, passes))
 
 -- the launch at the least values is one of the kernel, and meets the conditions

@@ -44,13 +44,13 @@ module _ (is_wide : Bool) (k : Source) (c p l : List ℕ) where
       of_one (verdicts.Refused line) g = inr (inl (kernel, conditions, s, r.0, g))
       of_one verdicts.OutOfMemory g = tt
 
-  pub unread_run : (workers : ℕ) (v : Verdict) (e : LaunchTextError) (kernel : Kernel) (conditions : meaning.Conditions) → AreSafeTexts is_wide k c kernel conditions → launches.Refuses e (launch_of kernel.tree.parameters l)
+  pub unread_run : (workers : ℕ) (v : Verdict) (e : LaunchTextError) (kernel : Kernel) (conditions : meaning.Conditions) → AreSafeTexts is_wide k c kernel conditions → launches.Refuses e (launch_of kernel.names.parameters l)
       → IsRefusal (launches.error_number e) (at_line (launches.error_place e)) v → Runs is_wide v workers k c p l
   unread_run workers (verdicts.Done text) e kernel conditions s r h = absurd h
   unread_run workers (verdicts.Refused line) e kernel conditions s r h = inr (inr (inl (e, kernel, conditions, s, r, h)))
   unread_run workers verdicts.OutOfMemory e kernel conditions s r h = tt
 
-  pub not_run : (v : Verdict) (e : RunError) (kernel : Kernel) (conditions : Conditions) (launch : Launch) (workers : ℕ) → AreSafeTexts is_wide k c kernel (conditions_seen conditions) → launch_of kernel.tree.parameters l ≡ Ok (reading.launch launch)
+  pub not_run : (v : Verdict) (e : RunError) (kernel : Kernel) (conditions : Conditions) (launch : Launch) (workers : ℕ) → AreSafeTexts is_wide k c kernel (conditions_seen conditions) → launch_of kernel.names.parameters l ≡ Ok (reading.launch launch)
       → Answers kernel.core conditions (launch_seen launch) workers (Err e) → IsRefusal (runs.error_number e) (at_line (runs.error_line e)) v → Runs is_wide v workers k c p l
   not_run (verdicts.Done text) e kernel conditions launch workers s q r h = absurd h
   not_run (verdicts.Refused line) e kernel conditions launch workers s q r h = inr (inr (inr (e, kernel, conditions, launch, s, q, r, h)))

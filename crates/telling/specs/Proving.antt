@@ -26,7 +26,7 @@ use Rattle.telling.specs.Telling.{AreSafeTexts, accepted_line}
 -- the check, which is the wide one or is not, accepts the kernel with the certificate of these bytes: no loop misses its barrier, the bytes
 -- say a certificate, and with it nothing stops the check
 abbrev pub IsProof : (is_wide : Bool) → Kernel → meaning.Conditions → (certificate : List ℕ) → Type 0
-IsProof is_wide k c certificate = (unmet k.core.body ≡ None) × (cert : Certificate) × (text_says is_wide certificate ≡ Ok cert) × PassesWith k.core k.tree c cert
+IsProof is_wide k c certificate = (unmet k.core.body ≡ None) × (cert : Certificate) × (text_says is_wide certificate ≡ Ok cert) × PassesWith k.core k.names c cert
 
 abbrev pub no_launch_line : List ℕ
 no_launch_line = codes "no launch found at least values\n"

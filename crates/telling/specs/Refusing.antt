@@ -44,13 +44,13 @@ IsUnreckonedText is_wide kernel conditions line =
 -- the kernel is accepted, and the launch's text is refused
 abbrev pub IsUnreadText : (is_wide : Bool) → (kernel : Source) (conditions launch line : List ℕ) → Type 0
 IsUnreadText is_wide kernel conditions launch line =
-    (e : LaunchTextError) × (k : Kernel) × (c : meaning.Conditions) × AreSafeTexts is_wide kernel conditions k c × launches.Refuses e (launch_of k.tree.parameters launch)
+    (e : LaunchTextError) × (k : Kernel) × (c : meaning.Conditions) × AreSafeTexts is_wide kernel conditions k c × launches.Refuses e (launch_of k.names.parameters launch)
     × IsLineOf (launches.error_number e) (at_line (launches.error_place e)) line
 
 -- the launch is read, and is not run with so many workers: the first condition that it does not meet, or their number
 abbrev pub IsUnrunText : (is_wide : Bool) → (workers : ℕ) → (kernel : Source) (conditions launch line : List ℕ) → Type 0
 IsUnrunText is_wide workers kernel conditions launch line =
-    (e : RunError) × (k : Kernel) × (c : Conditions) × (l : Launch) × AreSafeTexts is_wide kernel conditions k (conditions_seen c) × (launch_of k.tree.parameters launch ≡ Ok (reading.launch l))
+    (e : RunError) × (k : Kernel) × (c : Conditions) × (l : Launch) × AreSafeTexts is_wide kernel conditions k (conditions_seen c) × (launch_of k.names.parameters launch ≡ Ok (reading.launch l))
     × Answers k.core c (launch_seen l) workers (Err e) × IsLineOf (runs.error_number e) (at_line (runs.error_line e)) line
 
 -- one of these

@@ -20,7 +20,7 @@ use Rattle.executor.specs.Ends.{IsResultOf, EndsEvery, HaveKinds}
 -- where the check is the wide one; and at each launch that meets these the headline holds
 pub record AreSafeTexts (is_wide : Bool) (kernel : Source) (conditions : List ℕ) (k : Kernel) (c : Conditions) : Type 0 where
   pub kernel_text : IsTextOf kernel k
-  pub conditions_text : IsConditionsText is_wide k.tree.parameters conditions c
+  pub conditions_text : IsConditionsText is_wide k.names.parameters conditions c
   pub headline : HasHeadline k.core c
 
 abbrev pub accepted_line : List ℕ
@@ -34,14 +34,14 @@ launched w k l = on_device w (at_launch k.core l)
 -- result by rounds, which is defined, and with which every run that is over ends, each number a word of its parameter's kind; all this on
 -- each device
 pub record IsRun (k : Kernel) (c : Conditions) (launch written : List ℕ) (l : Launch) (b : List (List Word)) : Type 0 where
-  pub launch_text : IsLaunchText k.tree.parameters launch l
+  pub launch_text : IsLaunchText k.names.parameters launch l
   pub fits : Fits k.core l
   pub meets : Meets c l
   pub defined : (w : Width) → IsDefined (launched w k l) c.budget
   pub result : (w : Width) → IsResultOf (launched w k l) c.budget (map (map number) b)
   pub every : (w : Width) → EndsEvery (launched w k l) (map (map number) b)
   pub kinds : HaveKinds k.core.buffers b
-  pub text : written ≡ buffers_text k.tree.parameters b
+  pub text : written ≡ buffers_text k.names.parameters b
 
 abbrev pub IsAcceptedText : (is_wide : Bool) → (kernel : Source) (conditions written : List ℕ) → Type 0
 IsAcceptedText is_wide kernel conditions written = (k : Kernel) × (c : Conditions) × AreSafeTexts is_wide kernel conditions k c × (written ≡ accepted_line)

@@ -10,15 +10,15 @@ ghost use Rattle.telling.specs.ProvingVerdicts.{Explains, ExplainsCheck, GoesOn,
 
 use crate::proving::{Proved, Sought, findings_of, found, unproved};
 use crate::refusal::Refusal;
+use crate::trying::Trials;
 use crate::{Texts, Verdict};
 use cert_check::check_as;
 use cert_check::error::{CheckError, Pointer};
 use core_code::tree::Site;
-use explaining::{Refused, computes_with_sizes, explain, explain_sizes};
+use explaining::{Cuts, Outlook, Refused, computes_with_sizes, explain, explain_sizes};
 use launch::conditions::Conditions;
 use launch::probe::probe;
 use launch_text::laws::what_is_read_of_conditions_is_their_text;
-use proof_search::{Found, find_watched};
 use reading::Source;
 use reading::laws::bytes_are_the_text_of_what_is_read;
 use std::alloc::{AllocError, Global};
@@ -29,6 +29,9 @@ use verify::{Effort, VerifyError, Watcher};
 
 /// The number of steps that pass the budget.
 const OVER_BUDGET: u8 = 56;
+
+/// The number of too many paths.
+const MANY_PATHS: u8 = 53;
 
 /// The place in the kernel's text to which a refusal points.
 fn site_of(place: Option<Pointer>) -> Option<Site> {
@@ -55,13 +58,50 @@ fn going_on(
     }
 }
 
+/// What is looked for beside a refusal: what a search leaves where there are findings, with the lines of the conditions that help; where
+/// loops part paths that are too many; and the certificate of the narrow walk where its steps pass the budget.
+#[derive(Drop)]
+struct Further {
+    outlook: Option<Outlook>,
+    cuts: Option<Cuts>,
+    over_budget: Option<Vec<u8>>,
+}
+
+/// What is looked for beside a refusal.
+fn look_further<R: Threads + Sync, W: Watcher>(
+    alloc: Global,
+    trials: &Trials<'_, R, W>,
+    error: &VerifyError,
+) -> Result<Further, AllocError> {
+    let outlook = if findings_of(error).is_empty() {
+        None
+    } else {
+        trials.outlook(alloc)?
+    };
+    let cuts = if error.number() == MANY_PATHS {
+        trials.cuts(alloc)?
+    } else {
+        None
+    };
+    let over_budget = if error.number() == OVER_BUDGET {
+        trials.found_narrowly(alloc)
+    } else {
+        None
+    };
+    Ok(Further {
+        outlook,
+        cuts,
+        over_budget,
+    })
+}
+
 /// Tells and explains that no certificate was found, or that the steps of the one that was found pass the budget.
 fn unfound(
     alloc: Global,
     kernel: Source<'_>,
     conditions: &[u8],
     error: &VerifyError,
-    over_budget: Option<&[u8]>,
+    further: &Further,
 ) -> Verdict
     ensures { (is_wide : Bool) (k : kernels.Source) (c : List ℕ) → TellsOf is_wide error.now 1 k c → Explains is_wide result k c }
 {
@@ -69,31 +109,13 @@ fn unfound(
         number: error.number(),
         place: site_of(error.place()),
         findings: findings_of(error),
-        over_budget,
+        outlook: further.outlook.as_ref(),
+        cuts: further.cuts.as_ref(),
+        over_budget: further.over_budget.as_deref(),
     };
     match unproved(alloc, error) {
         Sought::Refused(told) => going_on(alloc, kernel, conditions, &refused, told),
         Sought::Found { .. } | Sought::OutOfMemory => Verdict::OutOfMemory,
-    }
-}
-
-/// The text of the certificate of the narrow walk; none where it finds none.
-fn found_narrowly<R: Threads + Sync, W: Watcher>(
-    rt: &R,
-    alloc: Global,
-    kernel: Source<'_>,
-    conditions: &[u8],
-    is_wide: bool,
-    watcher: &W,
-) -> Option<Vec<u8>> {
-    let narrowly = Effort {
-        workers: 1,
-        is_wide,
-        may_widen: false,
-    };
-    match find_watched(rt, alloc, kernel, conditions, narrowly, watcher) {
-        Ok(Found { text, .. }) => Some(text),
-        Err(_) => None,
     }
 }
 
@@ -201,12 +223,17 @@ pub fn explain_texts<R: Threads + Wait + Sync, W: Watcher>(
             proved(rt, alloc, kernel, conditions, effort, watcher, written)
         }
         Err(error) => {
-            let certificate = if error.number() == OVER_BUDGET {
-                found_narrowly(rt, alloc, kernel, conditions, is_wide, watcher)
-            } else {
-                None
+            let trials = Trials {
+                rt,
+                kernel,
+                conditions,
+                is_wide,
+                watcher,
             };
-            unfound(alloc, kernel, conditions, &error, certificate.as_deref())
+            match look_further(alloc, &trials, &error) {
+                Ok(further) => unfound(alloc, kernel, conditions, &error, &further),
+                Err(_) => Verdict::OutOfMemory,
+            }
         }
     }
 }
@@ -224,6 +251,8 @@ fn unaccepted(alloc: Global, texts: Texts, error: &CheckError) -> Verdict
         number,
         place: site_of(refusal.place),
         findings: &[],
+        outlook: None,
+        cuts: None,
         over_budget: (number == OVER_BUDGET).then_some(texts.certificate),
     };
     match refusal.told(alloc) {

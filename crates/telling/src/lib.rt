@@ -20,6 +20,7 @@ mod explained;
 mod migrating;
 mod proving;
 mod refusal;
+mod trying;
 
 use cert_check::check_as;
 use cert_check::error::{CheckError, Pointer};

@@ -3,4 +3,5 @@ pub mod Bindings
 pub mod Blocks
 pub mod Kernels
 pub mod Names
+pub mod Parameters
 pub mod Rooms

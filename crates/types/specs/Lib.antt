@@ -5,3 +5,4 @@ pub mod Elaborated
 pub mod Functions
 pub mod Names
 pub mod Rooms
+pub mod TypedKernel

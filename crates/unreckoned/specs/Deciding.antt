@@ -1,5 +1,5 @@
--- Whether what comes of an operation that is not reckoned decides anything: where a work-item goes on, which element it loads or stores, how
--- far it shifts, or whether it stops at a fault. Where it decides nothing, a run does the same on every device, but for values.
+-- Whether what comes of an operation that is not reckoned decides anything: where a work-item goes on, which element it loads or stores,
+-- how far it shifts, or whether it stops at a fault. Where it decides nothing, a run does the same on every device, but for values.
 use Rattle.std.specs.Prelude.{ℕ, Bool, true, false, not, ◌||◌, ◌&&◌}
 use Rattle.semantics.specs.Word.{Kind, Int, Uint, Size, Operator, Add, Subtract, Multiply, Divide, Remainder, BitAnd, BitOr, BitXor}
 use Rattle.semantics.specs.Core.{Array, Term, Literal, Variable, Id, Load, Unary, Binary, Convert, Compare, Not, And, Or, Select, Minimum, Maximum, Shift, Within, Opaque, Statement, Set, Store, If, Loop, Barrier, Return, Break, Continue, Statements, none, one}

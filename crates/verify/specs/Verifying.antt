@@ -3,7 +3,7 @@ use Rattle.std.specs.Prelude.{◌≡◌, ℕ, List, Bool, false, Ok}
 use Rattle.certificate_text.specs.Certificate.{Certificate}
 use Rattle.certificate_text.specs.NumberedText.{text_of_two}
 use Rattle.texts.specs.ConditionsReading.{conditions_of}
-use Rattle.syntax.specs.View.{kernel as tree_seen}
+use Rattle.kernel_names.specs.View.{names_seen}
 use Rattle.core_code.specs.View.{kernel as core_seen}
 use Rattle.launch.specs.View.{conditions as conditions_seen}
 use Rattle.launch_text.specs.View.{lined}
@@ -18,7 +18,7 @@ use Rattle.cert_check.specs.declared.accepted.Accepted.{Accepted}
 -- the check, which is the wide one or is not; so at each launch that meets the conditions the kernel is pair-safe, and the headline holds
 pub record IsVerifiedBy (is_wide : Bool) (kernel_text : Source) (conditions_text certificate_text : List ℕ) (a : Accepted) : Type 0 where
   pub kernel : read kernel_text ≡ Ok (kernel_seen (typed_of a))
-  pub conditions : conditions_of is_wide (tree_seen (typed_of a).0).parameters conditions_text ≡ Ok (lined (kept a))
+  pub conditions : conditions_of is_wide (names_seen (typed_of a).0).parameters conditions_text ≡ Ok (lined (kept a))
   pub passed : IsPassedBy is_wide (typed_of a) (conditions_seen (kept a)) certificate_text
   pub pair : IsAcceptedBy is_wide (core_seen (typed_of a).1) (conditions_seen (kept a))
   pub headline : HasHeadline (core_seen (typed_of a).1) (conditions_seen (kept a))

@@ -1,6 +1,6 @@
 use Rattle.reading.specs.Sources.{source}
 use Rattle.reading.specs.Answers.{kernel_seen}
-use Rattle.syntax.specs.View.{kernel}
+use Rattle.kernel_names.specs.View.{names_seen}
 use Rattle.launch.specs.View.{conditions}
 use Rattle.launch_text.specs.View.{lined}
 use Rattle.cert_check.specs.View.{typed_of, kept}
@@ -14,7 +14,7 @@ returns-in-Ok-from_slice c =
     let k = (source c.args.texts.kernel) in (
       kernel_seen t,
       conditions (kept c.in-Ok.accepted),
-      is_safe c.args.is_wide k c.args.texts.conditions.now t (kept c.in-Ok.accepted) (c.bytes_are_the_text_of_what_is_read.ensures k (kernel_seen t) c.in-Ok.ensures.kernel) (c.what_is_read_of_conditions_is_their_text.ensures c.args.is_wide (kernel t.0).parameters c.args.texts.conditions.now (lined (kept c.in-Ok.accepted)) c.in-Ok.ensures.conditions) c.in-Ok.ensures.headline,
+      is_safe c.args.is_wide k c.args.texts.conditions.now t (kept c.in-Ok.accepted) (c.bytes_are_the_text_of_what_is_read.ensures k (kernel_seen t) c.in-Ok.ensures.kernel) (c.what_is_read_of_conditions_is_their_text.ensures c.args.is_wide (names_seen t.0).parameters c.args.texts.conditions.now (lined (kept c.in-Ok.accepted)) c.in-Ok.ensures.conditions) c.in-Ok.ensures.headline,
       c.in-Ok-from_slice.ensures.items,
     )
 

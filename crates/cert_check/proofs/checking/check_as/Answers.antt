@@ -1,7 +1,7 @@
 use Rattle.std.proofs.Common.{rules, arith, false, refl, ap, sym, ◌∙◌, subst}
 use Rattle.std.proofs.lemmas.Int.{ints}
 use Rattle.core_code.specs.View.{kernel}
-use Rattle.syntax.specs.View.{kernel as tree}
+use Rattle.kernel_names.specs.View.{names_seen}
 use Rattle.launch_text.specs.Answers as launches
 use Rattle.semantics.specs.Conditions.{Conditions}
 use Rattle.launch.specs.View.{conditions}
@@ -46,7 +46,7 @@ returns-clause-pair c =
     let k = kernel (typed_of c.of.result).1 in
     let cond = c.in-Ok-read_conditions_as.conditions in
     let a : IsAcceptedWithin k (conditions (kept c.of.result)) = search rules in
-    accepted_by c.args.is_wide k (conditions (kept c.of.result)) (λ narrow. ap (λ x. (conditions x).contents) c.of.ensures.conditions ∙ ap (λ (m : Conditions). m.contents) (sym (conditions_meant cond)) ∙ no_contents c.args.is_wide (tree c.in-Ok.typed.0).parameters c.args.conditions.now (lined cond) c.in-Ok-read_conditions_as.ensures.value narrow) a
+    accepted_by c.args.is_wide k (conditions (kept c.of.result)) (λ narrow. ap (λ x. (conditions x).contents) c.of.ensures.conditions ∙ ap (λ (m : Conditions). m.contents) (sym (conditions_meant cond)) ∙ no_contents c.args.is_wide (names_seen c.in-Ok.typed.0).parameters c.args.conditions.now (lined cond) c.in-Ok-read_conditions_as.ensures.value narrow) a
 
 pub returns-clause-headline : goal.returns-clause-headline
 returns-clause-headline c =
@@ -157,5 +157,5 @@ returns-clause-alike c = λ own one.
 pub returns-in-Err-read_conditions_as-clause-alike : goal.returns-in-Err-read_conditions_as-clause-alike
 returns-in-Err-read_conditions_as-clause-alike c = λ own one.
     let t = c.in-Ok.typed in
-    let as_one = conditions_alike c.texts_of_version_1_are_read_alike.ensures c.args.is_wide c.args.conditions.now one (tree t.0).parameters in
+    let as_one = conditions_alike c.texts_of_version_1_are_read_alike.ensures c.args.is_wide c.args.conditions.now one (names_seen t.0).parameters in
     (t, c.in-Ok.ensures, subst (launches.Refuses c.in-Err-read_conditions_as.error) as_one c.in-Err-read_conditions_as.ensures.value)

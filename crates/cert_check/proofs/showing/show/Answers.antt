@@ -1,7 +1,7 @@
 use Rattle.std.proofs.Common.{◌≡◌, true, ap, sym, subst, map, []}
 use Rattle.std.specs.Prelude.{IfOk}
 use Rattle.core_code.specs.View.{kernel}
-use Rattle.syntax.specs.View.{kernel as tree}
+use Rattle.kernel_names.specs.View.{names_seen}
 use Rattle.launch.specs.View.{conditions}
 use Rattle.facts.specs.Launching.{are_sizes}
 use Rattle.arrivals.specs.Places.{places}
@@ -27,7 +27,7 @@ pub returns-clause-passed : goal.returns-clause-passed
 returns-clause-passed c =
     let k = kernel c.args.typed.now.1 in
     let k' = kernel c.core.result.now in
-    let source = tree c.args.typed.now.0 in
+    let source = names_seen c.args.typed.now.0 in
     let cond = conditions c.args.conditions.now in
     let es = (left c.args.entries.now).entries in
     let n = seen c.args.notes.now [] in
@@ -41,7 +41,7 @@ pub returns-clause-lacks : goal.returns-clause-lacks
 returns-clause-lacks c =
     let k = kernel c.args.typed.now.1 in
     let k' = kernel c.core.result.now in
-    let source = tree c.args.typed.now.0 in
+    let source = names_seen c.args.typed.now.0 in
     let cond = conditions c.args.conditions.now in
     let es = (left c.args.entries.now).entries in
     let n = seen c.args.notes.now [] in

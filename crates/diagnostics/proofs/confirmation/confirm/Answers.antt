@@ -1,6 +1,6 @@
 use Rattle.std.proofs.Common.{◌≡◌, ap, sym, ◌∙◌, subst}
 use Rattle.std.specs.Prelude.{IfSome}
-use Rattle.syntax.specs.View.{kernel}
+use Rattle.kernel_names.specs.View.{names_seen}
 use Rattle.work_item.specs.View.{setup_of}
 use Rattle.machine.specs.Worlds.{setup, world}
 use Rattle.diagnostics.specs.Confirming.{IsConfirmed}
@@ -13,7 +13,7 @@ pub returns-in-Some-clause-shown : goal.returns-in-Some-clause-shown
 returns-in-Some-clause-shown c =
     let w = c.in_ok-world.world in
     let u = c.play.new.world in
-    let k = kernel c.args.typed.now.0 in
+    let k = names_seen c.args.typed.now.0 in
     let x = c.in-Some.seen in
     let events = c.play.new.events.items in
     let same : setup u ≡ setup_of c.args.typed.now.1 c.args.launch.now =

@@ -3,7 +3,7 @@ use Rattle.std.proofs.Common.{◌≡◌, subst}
 use Rattle.std.specs.Prelude.{None}
 use Rattle.arrivals.specs.Loops.{unmet}
 use Rattle.places.specs.Answers.{IsRefused}
-use Rattle.syntax.specs.View.{kernel as tree_seen}
+use Rattle.kernel_names.specs.View.{names_seen}
 use Rattle.core_code.specs.View.{kernel}
 use Rattle.launch_text.specs.View.{lined}
 use Rattle.reading.specs.Answers.{kernel_seen}
@@ -40,6 +40,6 @@ returns-clause-told g c =
     let k = (source c.args.kernel) in
     let o = c.args.conditions.now in
     let text = c.bytes_are_the_text_of_what_is_read.ensures k (kernel_seen t) c.in-Ok.ensures in
-    let said = c.what_is_read_of_conditions_is_their_text.ensures c.args.effort.is_wide (tree_seen t.0).parameters o (lined n) c.in-Ok-read_conditions_as.ensures.value in
+    let said = c.what_is_read_of_conditions_is_their_text.ensures c.args.effort.is_wide (names_seen t.0).parameters o (lined n) c.in-Ok-read_conditions_as.ensures.value in
     let met = subst (λ x. unmet (kernel x).body ≡ None) c.core.ensures.value c.in-Ok-places.ensures.1 in
     all_told c.args.effort.is_wide t n c.args.effort.workers k o text said c.in-Ok-counted.ensures (t, lined n, (c.in-Ok.ensures, c.in-Ok-read_conditions_as.ensures.value), met) c.searched.result c.searched.ensures.ends

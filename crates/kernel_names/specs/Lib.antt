@@ -1,0 +1,3 @@
+pub mod NameMap
+pub mod View
+pub mod Parameters

@@ -1,0 +1,6 @@
+pub mod BlockSteps
+pub mod DeclarationSteps
+pub mod ExpressionSteps
+pub mod StatementSteps
+pub mod Steps
+pub mod TypeSteps

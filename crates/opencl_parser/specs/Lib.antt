@@ -1,0 +1,11 @@
+pub mod Declarations
+pub mod DeclarationsView
+pub mod Expressions
+pub mod Faults
+pub mod Parsed
+pub mod Reader
+pub mod Signs
+pub mod Statements
+pub mod StatementsView
+pub mod TypeNames
+pub mod View

@@ -1,0 +1,3 @@
+mod Elements
+mod Narrow
+mod Storage

@@ -1,0 +1,4 @@
+pub mod Spans
+pub mod JoinedLines
+pub mod Scans
+pub mod Values

@@ -1,0 +1,14 @@
+pub mod Signs
+pub mod Words
+pub mod Scalars
+pub mod Faults
+pub mod Joining
+pub mod Tokens
+pub mod Pieces
+pub mod Scanning
+pub mod Lexemes
+pub mod Numbers
+pub mod Characters
+pub mod Reading
+pub mod Spelling
+pub mod Seen

@@ -79,7 +79,8 @@ pub fn starts_declaration(types: &[Known], kind: LexemeKind) -> bool
     is_storage(kind) || starts_type(types, kind)
 }
 
-fn specified<'a>(types: &[Known], begun: Typed<'a>, kind: LexemeKind<'a>) -> TypePart<'a>
+/// What the lexeme is to the words in front of declarators that were begun.
+pub fn specified<'a>(types: &[Known], begun: Typed<'a>, kind: LexemeKind<'a>) -> TypePart<'a>
     ensures { type_part_seen result ≡ reads.specified (all_known types.now) (typed_seen begun.entry) (lexeme_kind kind.entry) }
 {
     if is_storage(kind) {
@@ -114,7 +115,8 @@ fn specifying<'a>(
     }
 }
 
-fn new_name<'a>(types: &[Known], kind: LexemeKind<'a>) -> Option<&'a str>
+/// The name that a lexeme is, where that is no type.
+pub fn new_name<'a>(types: &[Known], kind: LexemeKind<'a>) -> Option<&'a str>
     ensures { option_map text_seen result ≡ reads.new_name (all_known types.now) (lexeme_kind kind.entry) }
 {
     match kind {
@@ -148,10 +150,10 @@ fn dimension<'a>(
     Ok((Some(length), rest))
 }
 
-// Dimensions, behind those that were read.
+/// Reads dimensions, behind those that were read.
 #[cycle(dimensions)]
 #[tactic(auto, using(crate::proofs::DeclarationSteps::declaration_steps))]
-fn dimensions<'a>(
+pub fn dimensions<'a>(
     alloc: Global,
     types: &[Known],
     depth: u32,

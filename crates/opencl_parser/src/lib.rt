@@ -6,16 +6,16 @@
 //! tree that the readers have, or the fault that they name at its place. The definition is the reader: no relation stands beside it.
 #![tactic(auto)]
 
-pub(crate) mod aliases;
-pub(crate) mod declarations;
+pub mod aliases;
+pub mod declarations;
 pub mod expressions;
-pub(crate) mod front;
+pub mod front;
 pub(crate) mod nodes;
-pub(crate) mod parts;
-pub(crate) mod signs;
+pub mod parts;
+pub mod signs;
 pub mod statements;
 pub mod stops;
-pub(crate) mod type_names;
+pub mod type_names;
 pub mod type_words;
 mod whole;
 

@@ -1,0 +1,4 @@
+pub mod Arguments
+pub mod Lists
+pub mod Placing
+pub mod Trees

@@ -1,0 +1,10 @@
+use Rattle.std.proofs.Common.{◌≡◌, drop, map}
+use Rattle.opencl_tree.specs.View.{declarator}
+use Rattle.opencl_core.specs.Declaring.{declare_all}
+use Rattle.opencl_core.specs.View.{room, shared}
+use Rattle.opencl_core.proofs.declaring.declare_all.Given as goal
+
+abbrev pub invariant-loop-declarator : goal.invariant-loop-declarator
+invariant-loop-declarator l =
+    declare_all (shared l.shared) (map declarator (drop l.declarator-index l.declarators)) (room l.room)
+    ≡ declare_all (shared l.shared) (map declarator l.declarators) (room l.initial.room)

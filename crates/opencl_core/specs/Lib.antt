@@ -1,0 +1,14 @@
+pub mod Assigning
+pub mod Constants
+pub mod Declaring
+pub mod Flags
+pub mod Heads
+pub mod Kernels
+pub mod Names
+pub mod Places
+pub mod PlacesView
+pub mod Repeating
+pub mod Rooms
+pub mod Sites
+pub mod View
+pub mod Writing

@@ -1,0 +1,100 @@
+-- What the code's rooms and heads stand for.
+use denote.Ref.{Bor}
+use Rattle.std.specs.Prelude.{ℕ, List, map, Option, Some, None, String, string_bytes, slice_index}
+use Rattle.std.specs.declared.alloc.Global.{Global}
+use Rattle.semantics.specs.Launch as launch
+use Rattle.semantics.specs.Word as word
+use Rattle.core_code.specs.View.{site, kernel, local_array, statements}
+use Rattle.kernel_names.specs.View.{standing, variable, names_seen}
+use Rattle.syntax.specs.View.{assign_sign}
+use Rattle.words.specs.View.{kind}
+use Rattle.opencl_tree.specs.Tree as tree
+use Rattle.opencl_tree.specs.View.{base, qualifiers, expression, maybe}
+use Rattle.opencl_tree.specs.declared.tree.Expr.{Expr}
+use Rattle.opencl_terms.specs.Answers.{value_type}
+use Rattle.opencl_values.specs.Elements as elements
+use Rattle.opencl_values.specs.ElementsView.{element}
+use Rattle.opencl_values.specs.View.{bindings}
+use Rattle.opencl_core.specs.Assigning as assigning
+use Rattle.opencl_core.specs.Declaring as declaring
+use Rattle.opencl_core.specs.Flags as flags
+use Rattle.opencl_core.specs.Heads as heads
+use Rattle.opencl_core.specs.Kernels as kernels
+use Rattle.opencl_core.specs.Rooms as rooms
+use Rattle.opencl_core.specs.Writing as writing
+use Rattle.opencl_core.specs.declared.assigning.Change.{Change}
+use Rattle.opencl_core.specs.declared.assigning.Target.{Target}
+use Rattle.opencl_core.specs.declared.declaring.Lengths.{Lengths}
+use Rattle.opencl_core.specs.declared.declaring.Shared.{Shared}
+use Rattle.opencl_core.specs.declared.flags.Fences.{Fences}
+use Rattle.opencl_core.specs.declared.heads.Named.{Named}
+use Rattle.opencl_core.specs.declared.heads.LocalCount.{LocalCount}
+use Rattle.opencl_core.specs.declared.kernels.Given.{Given}
+use Rattle.opencl_core.specs.declared.kernels.Written.{Written}
+use Rattle.opencl_core.specs.declared.locals.LocalShape.{LocalShape}
+use Rattle.opencl_core.specs.declared.rooms.Part.{Part}
+use Rattle.opencl_core.specs.declared.rooms.Room.{Room}
+use Rattle.opencl_core.specs.declared.rooms.Scope.{Scope}
+use Rattle.opencl_core.specs.declared.writing.Around.{Around}
+use Rattle.opencl_core.specs.declared.writing.Around.TheVariants as arounds
+
+abbrev pub room : Room → rooms.Room
+room r = record {
+  ids = kind r.ids;
+  visible = bindings r.visible.items;
+  around = r.around;
+  slots = map kind r.slots.items;
+  arrays = map local_array r.arrays.items;
+  elements = r.elements;
+  buffers = map kind r.buffers.items;
+  next = r.next;
+  written = statements r.written.items;
+  names = names_seen r.names;
+}
+
+abbrev pub part : Part → rooms.Part
+part p = record { statements = statements p.statements.items; standings = map standing p.standings.items }
+
+abbrev pub scope : Scope → rooms.Scope
+scope s = record { around = s.around; variables = map variable s.variables.items }
+
+abbrev pub local : LocalShape → declaring.LocalShape
+local a = record { type = value_type a.of; count = a.count; lengths = a.lengths.items; is_constant = a.is_constant }
+
+abbrev pub shared : Shared → declaring.Shared
+shared s = record { type = value_type s.of; qualifiers = qualifiers s.qualifiers }
+
+abbrev pub lengths : Lengths → declaring.Lengths
+lengths l = record { all = l.all.items; product = l.product }
+
+abbrev pub value_given : Option (Bor Expr) → Option tree.Expression
+value_given None = None
+value_given (Some e) = Some (expression e.now)
+
+abbrev pub change : Change → assigning.Change
+change c = record { at = site c.at; sign = assign_sign c.sign; sign_site = site c.sign_site; value = value_given c.value }
+
+abbrev pub target : Target → elements.Element × word.Kind
+target t = (element t.element, kind t.kind)
+
+abbrev pub local_count : LocalCount → heads.LocalCount
+local_count l = record { name = string_bytes l.name; count = l.count }
+
+abbrev pub named : Named → heads.Named
+named p = record { site = site p.site; name = p.name.now; type = value_type p.of }
+
+abbrev pub fences : Fences → flags.Fences
+fences f = record { local = f.local; global = f.global }
+
+abbrev pub three : List ℕ → launch.Three ℕ
+three sizes = record { x = slice_index sizes 0; y = slice_index sizes 1; z = slice_index sizes 2 }
+
+abbrev pub given : Given → kernels.Given
+given g = record { sizes = three g.sizes; buffers = map kind g.buffers.items; arguments = map kind g.arguments.items }
+
+abbrev pub written : Written → kernels.Written
+written w = record { core = kernel w.core; names = names_seen w.names }
+
+abbrev pub around : Around → writing.Around
+around arounds.Outside = writing.Outside
+around (arounds.InLoop number tests_last) = writing.InLoop number tests_last

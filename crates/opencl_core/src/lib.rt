@@ -1,0 +1,20 @@
+//! Section: OpenCL text. Promises exactly the core and the map of names that a kernel of OpenCL C stands for, or its first broken rule;
+//! stands on `opencl_files`, `opencl_values` and `kernel_names`.
+//!
+//! Statements are written out one behind the other into a room, which knows what names mean, what was declared, and the number of the next
+//! core statement.
+#![tactic(auto)]
+
+pub mod assigning;
+mod constants;
+pub mod declaring;
+pub mod flags;
+pub mod heads;
+pub mod kernels;
+pub mod locals;
+mod names;
+mod places;
+pub mod rooms;
+mod sites;
+mod steady;
+pub mod writing;

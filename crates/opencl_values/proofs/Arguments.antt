@@ -1,0 +1,43 @@
+-- Arguments of calls, by their number.
+use Rattle.std.proofs.Common.{◌≡◌, ◌≢◌, ◌<◌, ◌≤◌, ℕ, zero, suc, List, [], ◌∷◌, length, get_or, refl, arith}
+use Rattle.semantics.specs.Core as core
+use Rattle.semantics.specs.Word as word
+use Rattle.opencl_terms.specs.Operations as operations
+use Rattle.opencl_terms.specs.Types as types
+use Rattle.opencl_tree.specs.Tree.{Expression, Expressions, nothing, also}
+use Rattle.opencl_tree.specs.Tree as tree
+use Rattle.opencl_tree.specs.View.{expression, expressions}
+use Rattle.opencl_tree.specs.declared.tree.Expr.{Expr}
+use Rattle.opencl_values.specs.Calls.{argument_in, dimension_of}
+use Rattle.opencl_values.specs.Faults.{WrongType, refused}
+use Rattle.opencl_values.specs.Singles.{as_scalar}
+use Rattle.opencl_values.specs.View.{single, values}
+use Rattle.opencl_values.specs.declared.singles.Single.{Single}
+
+pub argument_in-past : (ids : word.Kind) (to : types.Scalar) (site : core.Site) (vs : List Single) (n : ℕ) → length vs ≤ n → argument_in ids to site (values vs) n ≡ operations.nothing
+argument_in-past ids to site [] n h = refl
+argument_in-past ids to site (v ∷ vs) zero h = absurd (omega arith)
+argument_in-past ids to site (v ∷ vs) (suc n) h = argument_in-past ids to site vs n (omega arith)
+
+pub argument_in-at : (ids : word.Kind) (to : types.Scalar) (site : core.Site) (vs : List Single) (n : ℕ) (d : Single) → n < length vs → argument_in ids to site (values vs) n ≡ as_scalar ids to site (single (get_or vs n d))
+argument_in-at ids to site [] n d h = absurd (omega arith)
+argument_in-at ids to site (v ∷ vs) zero d h = refl
+argument_in-at ids to site (v ∷ vs) (suc n) d h = argument_in-at ids to site vs n d (omega arith)
+
+pub ruleset values_at = (argument_in-past, argument_in-at)
+
+more : (site : core.Site) (e x : Expression) (es : Expressions) → dimension_of site (also e (also x es)) ≡ refused WrongType site
+more site (tree.Integer at kind n) x es = refl
+more site e x es = refl
+
+pub dimension_of-many : (site : core.Site) (es : List Expr) → length es ≢ 1 → dimension_of site (expressions es) ≡ refused WrongType site
+dimension_of-many site [] h = refl
+dimension_of-many site (e ∷ []) h = absurd (h refl)
+dimension_of-many site (e ∷ x ∷ es) h = more site (expression e) (expression x) (expressions es)
+
+pub expressions-one : (es : List Expr) (d : Expr) → length es ≡ 1 → expressions es ≡ also (expression (get_or es 0 d)) nothing
+expressions-one [] d h = absurd (omega arith)
+expressions-one (e ∷ []) d h = refl
+expressions-one (e ∷ x ∷ es) d h = absurd (omega arith)
+
+pub ruleset one_argument = (dimension_of-many, expressions-one)

@@ -1,0 +1,16 @@
+pub mod Calls
+pub mod CallsView
+pub mod Constants
+pub mod ConstantsView
+pub mod Elements
+pub mod ElementsView
+pub mod Faults
+pub mod Functions
+pub mod FunctionsView
+pub mod Names
+pub mod Operations
+pub mod Saturation
+pub mod Scope
+pub mod Singles
+pub mod Values
+pub mod View

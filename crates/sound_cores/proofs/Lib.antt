@@ -1,0 +1,14 @@
+pub mod Exits
+pub mod Finding
+pub mod Forming
+pub mod Going
+pub mod Kept
+pub mod Lists
+pub mod Ordering
+pub mod Pointing
+pub mod Reaching
+pub mod Rising
+pub mod Slots
+pub mod Staying
+pub mod Ways
+pub mod Within

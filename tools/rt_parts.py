@@ -7,7 +7,7 @@ import sys
 
 # What is used of `rt`: by build.py and compile.py, and by what tries wrong bodies and notes times besides.
 PARTS = ("rtlib", "KIT", "Crate", "handles_of", "need", "processors", "in_lanes")
-PARTS_OF_TRIALS = ("rtlib", "main", "seeded", "linked", "must_fail", "REFUSED", "AT_LIMIT", "SETTLED")
+PARTS_OF_TRIALS = ("rtlib", "main", "must_fail", "must_fail_all")
 
 
 def parts_of_rt(used=PARTS):

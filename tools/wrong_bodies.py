@@ -7,7 +7,6 @@ are not. The status is 1 where one is not refused.
 """
 import glob
 import os
-import shutil
 import sys
 
 from rt_parts import PARTS_OF_TRIALS, parts_of_rt
@@ -18,27 +17,10 @@ FLAGS = ["--jobs", "1"]
 
 def tries(rt, crate):
     """What the prover says to each wrong body of the crate: whether it is refused, and the line that tells it."""
-    edits = [os.path.abspath(it) for it in sorted(glob.glob(f"{FOLDER}/{crate.name}/*.edit"))]
     if any(below.build_rlib(FLAGS, anew=False) for below in crate.below()):
-        yield False, f"{crate.name}: a library below it is not proved"
-        return
-    room = rt.seeded(crate, FLAGS) if len(edits) > 1 else None
-    for edit in edits:
-        kind, line = tried(rt, crate, edit, room)
-        yield kind in (rt.REFUSED, rt.AT_LIMIT), line
-    shutil.rmtree(room or "", ignore_errors=True)
-
-
-def tried(rt, crate, edit, room):
-    """What a try comes to, over what the crate's own proof left; what is not refused there is tried once more from nothing."""
-    if room:
-        over = f"{room}/over"
-        rt.linked(f"{room}/seed", over)
-        kind, line = rt.must_fail(crate, edit, FLAGS, over)
-        shutil.rmtree(over, ignore_errors=True)
-        if kind in rt.SETTLED:
-            return kind, line
-    return rt.must_fail(crate, edit, FLAGS)
+        return [(False, f"{crate.name}: a library below it is not proved")]
+    edits = [os.path.abspath(it) for it in sorted(glob.glob(f"{FOLDER}/{crate.name}/*.edit"))]
+    return rt.must_fail_all(crate, edits, FLAGS)
 
 
 def main(names):

@@ -12,7 +12,7 @@ use core_code::tree::{Core, Statement};
 use facts::Family;
 use linear::{Form, Term};
 use path_steps::Value;
-use words::Kind;
+use words::{Kind, same_kind};
 
 /// The disjunction of two truth values; both are asked beforehand.
 fn either(first: bool, second: bool) -> bool
@@ -67,16 +67,6 @@ pub fn is_kept(core: &Core, slot: u64) -> bool
 {
     let is_argument = slot < core.arguments.len() as u64;
     is_argument && !some_sets(slot, core.body.as_slice())
-}
-
-/// Two kinds are the same.
-fn same_kind(left: Kind, right: Kind) -> bool
-    ensures { result ≡ roots.same_kind (kind_seen left) (kind_seen right) }
-{
-    match (left, right) {
-        (Kind::Int, Kind::Int) | (Kind::Uint, Kind::Uint) | (Kind::Size, Kind::Size) => true,
-        _ => false,
-    }
 }
 
 /// The form's terms are a parameter's argument, once.

@@ -1,7 +1,7 @@
 //! Section: Tests. Promises nothing; it holds tests of crates of other sections, and nothing stands on it.
 //!
-//! The tests of `words`, `lines`, `linear`, `cut_proof`, `domain`, `loop_bounds`, `work_item`, `board`, `houdini` and `write_log`, so that
-//! none of these is proved twice.
+//! The tests of `words`, `lines`, `linear`, `cut_proof`, `domain`, `loop_bounds`, `work_item`, `board`, `houdini`, `write_log` and
+//! `sound_cores`, so that none of these is proved twice.
 #![tactic(auto)]
 
 #[cfg(test)]
@@ -32,6 +32,8 @@ mod making;
 mod product_tests;
 #[cfg(test)]
 mod shift_tests;
+#[cfg(test)]
+mod sound_cores_tests;
 #[cfg(test)]
 mod tables;
 #[cfg(test)]

@@ -1,7 +1,8 @@
 // What a command line answers.
 
 use crate::faulty::{Counted, Sealed, Torn};
-use crate::parts::{Part, part_of, push_part_of_files};
+use crate::part_files::push_part_of_files;
+use case_parts::{Part, part_of};
 use program::files::Files;
 use program::held::Held;
 use program::patience::StatusLine;

@@ -1,4 +1,4 @@
-//! Section: Tests. Promises nothing: it holds the tests of texts, and what `bench/` measures; stands on `program` and below.
+//! Section: Tests. Promises nothing: it holds the tests of texts, and what `bench/` measures; stands on `program` and `case_parts`.
 //!
 //! `cases FILE..` reads files of cases and runs the program on each, over files in memory; it says of each file how many cases are as
 //! told, shows those that are not, and ends with status 1 if there is one. `replay KERNEL LAUNCH SCHEDULE` replays a schedule,
@@ -22,20 +22,11 @@ mod answers;
 mod boards;
 mod cuts;
 mod faulty;
-mod launched;
-mod least;
-mod logged;
 mod marks;
-mod meeting;
-mod noted;
-mod parts;
-mod play;
+mod part_files;
 mod sheet;
-mod spots;
-mod stalled;
-mod unreckoned_kernels;
 
-use parts::{Asked, Part, push_part};
+use case_parts::{Asked, Part, push_part};
 use std::process::ExitCode;
 use std::sync::Wait;
 use std::thread::Threads;

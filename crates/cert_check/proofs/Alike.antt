@@ -1,11 +1,11 @@
 -- What is told of a text holds of each text that says the same.
-use Rattle.reading.specs.Kernels.{Source}
+use Rattle.kernel_reading.specs.Kernels.{Source}
 use Rattle.std.proofs.Common.{◌≡◌, ◌∙◌, ℕ, List, Bool, true, false, Ok, Err, refl, ap, subst, sym}
-use Rattle.types.specs.TypedKernel.{TypedKernel}
+use Rattle.typed_kernels.specs.TypedKernel.{TypedKernel}
 use Rattle.semantics.specs.Conditions.{Conditions}
 use Rattle.certificate_text.specs.Certificate.{BadLine, OtherVersion}
 use Rattle.texts.specs.Surface.{Parameter}
-use Rattle.texts.specs.ConditionsReading.{Lined, conditions_of}
+use Rattle.launch_text.specs.ConditionsReading.{Lined, conditions_of}
 use Rattle.kernel_names.specs.View.{names_seen}
 use Rattle.launch_text.specs.Answers as launches
 use Rattle.certificate_text.specs.Reading.{Read, certificate_of}
@@ -13,7 +13,7 @@ use Rattle.certificate_text.specs.NumberedReading.{certificate_of_two, certifica
 use Rattle.certificate_text.specs.Migrated.{written, migrated}
 use Rattle.certificate_text.specs.Versions.{unless_other, certificate_in}
 use Rattle.certificate.specs.Certificates.{Says}
-use Rattle.cert_check.specs.Alike.{AreNotOfTwo, IsOfOneOrTwo}
+use Rattle.cert_check.specs.Alike.{AreNotOfTwoOrThree, IsOfOneOrTwo}
 use Rattle.cert_check.specs.Breadth.{text_says}
 use Rattle.cert_check.specs.Refusing.{AreRead, IsPassedBy, RefusesBy}
 use Rattle.cert_check.specs.declared.error.CheckError.{CheckError}
@@ -37,8 +37,8 @@ module _ (wide as_wide : Bool) (one two : List ℕ) (same : text_says wide one �
     refused_alike (errors.ManyPaths site) (typed, found, cert, (are_read, met, read), many) = (typed, found, cert, (read_alike typed found are_read, met, sym same ∙ read), many)
     refused_alike (errors.Show e) (typed, found, cert, (are_read, met, read), shows) = (typed, found, cert, (read_alike typed found are_read, met, sym same ∙ read), shows)
 
--- conditions of another version than 2 are read alike, by the law of their texts
-pub conditions_alike : ((ps : List Parameter) (text : List ℕ) → AreNotOfTwo text → conditions_of true ps text ≡ conditions_of false ps text) → (is_wide : Bool) (conditions : List ℕ) → AreNotOfTwo conditions → (ps : List Parameter) → conditions_of is_wide ps conditions ≡ conditions_of false ps conditions
+-- conditions of another version than 2 and 3 are read alike, by the law of their texts
+pub conditions_alike : ((ps : List Parameter) (text : List ℕ) → AreNotOfTwoOrThree text → conditions_of true ps text ≡ conditions_of false ps text) → (is_wide : Bool) (conditions : List ℕ) → AreNotOfTwoOrThree conditions → (ps : List Parameter) → conditions_of is_wide ps conditions ≡ conditions_of false ps conditions
 conditions_alike law false conditions h ps = refl
 conditions_alike law true conditions h ps = law ps conditions h
 

@@ -2,9 +2,9 @@
 use Rattle.std.proofs.Common.{◌≡◌, ℕ, nat_lt, Bool, true, false, List, [], length, map, Ok, refl, ap, sym, ◌∙◌, subst}
 use Rattle.semantics.specs.Conditions.{Content}
 use Rattle.texts.specs.Surface.{Parameter}
-use Rattle.texts.specs.LaunchFaults.{LimitPassed, Step, Cursor, cursor, expect, end_line}
-use Rattle.texts.specs.LaunchWords.{Conditions, due, end_text}
-use Rattle.texts.specs.ConditionsReading.{ContentLine, Lined, content_meant, meant, groups_line, argument_lines, length_lines, requirement_lines, content_lines, budget_line, lined, version_at, version_line, conditions_at, conditions_limit, conditions_of}
+use Rattle.launch_text.specs.LaunchFaults.{LimitPassed, Step, Cursor, cursor, expect, end_line}
+use Rattle.launch_text.specs.LaunchWords.{Conditions, due, end_text}
+use Rattle.launch_text.specs.ConditionsReading.{ContentLine, Lined, content_meant, meant, groups_line, argument_lines, length_lines, requirement_lines, content_lines, budget_line, lined, version_at, numbered_line, version_line, conditions_at, conditions_limit, conditions_of}
 use Rattle.launch_text.proofs.Back.{then_back, same_back, unless_back}
 
 version_one : (c : Cursor) (t : Bool × Cursor) → version_at false c ≡ Ok t → t.0 ≡ false
@@ -13,13 +13,18 @@ version_one c t e =
     let d = then_back (expect _ c) _ t e in
     ap (λ (r : Bool × Cursor). r.0) (sym (same_back (false, d.0) t d.2))
 
+numbered_one : (c : Cursor) (t : Bool × Cursor) → numbered_line false c ≡ Ok t → t.0 ≡ false
+unfolding numbered_line
+numbered_one c t e =
+    let v = then_back (version_at false c) _ t e in
+    let d = then_back (end_line v.0.1) _ t v.2 in
+    ap (λ (r : Bool × Cursor). r.0) (sym (same_back (v.0.0, d.0) t d.2)) ∙ version_one c v.0 v.1
+
 first_one : (c : Cursor) (t : Bool × Cursor) → version_line false c ≡ Ok t → t.0 ≡ false
 unfolding version_line
 first_one c t e =
     let a = then_back (due _ _ c) _ t e in
-    let v = then_back (version_at false a.0) _ t a.2 in
-    let d = then_back (end_line v.0.1) _ t v.2 in
-    ap (λ (r : Bool × Cursor). r.0) (sym (same_back (v.0.0, d.0) t d.2)) ∙ version_one a.0 v.0 v.1
+    numbered_one a.0 t a.2
 
 none_read : (ps : List Parameter) (c : Cursor) (t : List ContentLine × Cursor) → content_lines false ps c ≡ Ok t → t.0 ≡ []
 unfolding content_lines

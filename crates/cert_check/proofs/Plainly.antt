@@ -1,15 +1,15 @@
 -- What an error tells of a kernel, where it is plain.
-use Rattle.reading.specs.Kernels.{Source}
+use Rattle.kernel_reading.specs.Kernels.{Source}
 use Rattle.std.proofs.Common.{◌≡◌, ℕ, zero, suc, ◌<◌, List, [], ◌∷◌, get_or, arith, sym, subst, ◌∙◌, inl, inr}
 use Rattle.std.specs.Prelude.{◌⊎◌, Bool, true, false, Err, Option, None}
 use Rattle.std.proofs.lemmas.Bool.{false≢true}
 use Rattle.semantics.specs.Launch as semantics
 use Rattle.semantics.specs.Conditions.{Conditions}
 use Rattle.certificate_text.specs.Certificate.{Certificate}
-use Rattle.texts.specs.ConditionsReading.{Lined, meant}
+use Rattle.launch_text.specs.ConditionsReading.{Lined, meant}
 use Rattle.kernel_names.specs.NameMap.{NameMap}
 use Rattle.kernel_names.specs.View.{names_seen}
-use Rattle.types.specs.TypedKernel.{TypedKernel}
+use Rattle.typed_kernels.specs.TypedKernel.{TypedKernel}
 use Rattle.core_code.specs.View.{kernel as core_seen}
 use Rattle.arrivals.specs.Loops.{unmet}
 use Rattle.facts.specs.declared.error.WalkError.TheVariants as walks

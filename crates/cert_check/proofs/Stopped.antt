@@ -1,12 +1,12 @@
 -- What an error tells once the kernel and the conditions are read.
-use Rattle.reading.specs.Kernels.{Source}
+use Rattle.kernel_reading.specs.Kernels.{Source}
 use Rattle.std.proofs.Common.{◌≡◌, ℕ, List, Bool, sym, subst}
 use Rattle.std.specs.Prelude.{Ok}
 use Rattle.semantics.specs.Conditions.{Conditions}
 use Rattle.certificate_text.specs.Certificate.{Certificate}
-use Rattle.texts.specs.ConditionsReading.{Lined, conditions_of, meant}
+use Rattle.launch_text.specs.ConditionsReading.{Lined, conditions_of, meant}
 use Rattle.kernel_names.specs.View.{names_seen}
-use Rattle.types.specs.TypedKernel.{TypedKernel}
+use Rattle.typed_kernels.specs.TypedKernel.{TypedKernel}
 use Rattle.core_code.specs.View.{kernel as core_seen}
 use Rattle.launch_text.specs.Answers as answers
 use Rattle.entry_check.specs.declared.error.ShowError.{ShowError}

@@ -1,5 +1,5 @@
 -- Texts of version 1, and the same in version 2: what is told of one holds of the other.
-use Rattle.reading.specs.Kernels.{Source}
+use Rattle.kernel_reading.specs.Kernels.{Source}
 use Rattle.std.specs.Prelude.{◌≡◌, ◌≤◌, ℕ, List, length, Bool, false, nat_eq, Result, Ok, Err, codes}
 use Rattle.std.specs.List.{starts_with}
 use Rattle.certificate_text.specs.Certificate.{OtherVersion}
@@ -29,6 +29,6 @@ HoldsOf answer kernel conditions certificate = HoldsOfBy false answer kernel con
 abbrev pub IsOfOneOrTwo : List ℕ → Type 0
 IsOfOneOrTwo text = certificate_in text ≡ Err OtherVersion → ⊥
 
--- conditions of another version than 2, or of none
-abbrev pub AreNotOfTwo : (conditions : List ℕ) → Type 0
-AreNotOfTwo text = starts_with nat_eq text (codes "conditions 2") ≡ false
+-- conditions of another version than 2 and 3, or of none
+abbrev pub AreNotOfTwoOrThree : (conditions : List ℕ) → Type 0
+AreNotOfTwoOrThree text = (starts_with nat_eq text (codes "conditions 2") ≡ false) × (starts_with nat_eq text (codes "conditions 3") ≡ false)

@@ -6,7 +6,7 @@ use Rattle.semantics.specs.Conditions.{Conditions}
 use Rattle.certificate_text.specs.Certificate.{Certificate}
 use Rattle.kernel_names.specs.NameMap.{NameMap}
 use Rattle.kernel_names.specs.View.{names_seen}
-use Rattle.types.specs.TypedKernel.{TypedKernel}
+use Rattle.typed_kernels.specs.TypedKernel.{TypedKernel}
 use Rattle.core_code.specs.View.{kernel as core_seen, site as site_seen}
 use Rattle.certificate.specs.Certificates.{Says}
 use Rattle.launch_text.specs.declared.error.LaunchTextError.TheVariants as launches

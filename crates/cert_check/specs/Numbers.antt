@@ -2,7 +2,8 @@
 use Rattle.std.specs.Prelude.{ℕ, Option, Some, None}
 use Rattle.semantics.specs.Core.{Site}
 use Rattle.core_code.specs.View.{site as site_seen}
-use Rattle.reading.specs.Answers as reading
+use Rattle.kernel_reading.specs.Answers as reading
+use Rattle.kernel_reading.specs.declared.KernelError.TheVariants as kernel_errors
 use Rattle.launch_text.specs.Answers as conditions
 use Rattle.certificate.specs.Answers as certificates
 use Rattle.entry_check.specs.declared.error.Pointer.{Pointer}
@@ -34,6 +35,7 @@ at_line (Some line) = Some (Number line)
 at_line None = None
 
 abbrev pub error_place : CheckError → Option Pointer
+error_place (errors.Kernel (kernel_errors.Head e)) = at_line (conditions.error_place e)
 error_place (errors.Kernel e) = at_place (reading.error_place e)
 error_place (errors.Conditions e) = at_line (conditions.error_place e)
 error_place (errors.Missed site) = Some (at_site (site_seen site))

@@ -1,13 +1,13 @@
 -- What a refusal says of a plain kernel, once its three texts are read.
-use Rattle.reading.specs.Kernels.{Source}
+use Rattle.kernel_reading.specs.Kernels.{Source}
 use Rattle.std.specs.Prelude.{◌≡◌, ◌<◌, ◌⊎◌, ℕ, zero, suc, List, length, Bool, true, false, Result, Ok, Err}
 use Rattle.semantics.specs.Launch as semantics
 use Rattle.semantics.specs.Conditions.{Conditions}
 use Rattle.certificate_text.specs.Certificate.{Certificate}
-use Rattle.texts.specs.ConditionsReading.{Lined, meant}
+use Rattle.launch_text.specs.ConditionsReading.{Lined, meant}
 use Rattle.kernel_names.specs.NameMap.{NameMap}
 use Rattle.kernel_names.specs.View.{names_seen}
-use Rattle.types.specs.TypedKernel.{TypedKernel}
+use Rattle.typed_kernels.specs.TypedKernel.{TypedKernel}
 use Rattle.core_code.specs.View.{kernel as core_seen}
 use Rattle.walk_trees.specs.Trees.{Obligation}
 use Rattle.facts.specs.declared.error.WalkError.TheVariants as walks

@@ -4,13 +4,13 @@ use Rattle.semantics.specs.Launch as semantics
 use Rattle.semantics.specs.Conditions.{Conditions}
 use Rattle.certificate_text.specs.Certificate.{Certificate}
 use Rattle.kernel_names.specs.NameMap.{NameMap}
-use Rattle.texts.specs.ConditionsReading.{Lined, conditions_of, meant}
+use Rattle.launch_text.specs.ConditionsReading.{Lined, conditions_of, meant}
 use Rattle.kernel_names.specs.View.{names_seen}
-use Rattle.types.specs.TypedKernel.{TypedKernel}
+use Rattle.typed_kernels.specs.TypedKernel.{TypedKernel}
 use Rattle.core_code.specs.View.{kernel as core_seen}
 use Rattle.core_code.specs.declared.tree.Site.{Site}
-use Rattle.reading.specs.Kernels.{read, Source}
-use Rattle.reading.specs.Answers as reading
+use Rattle.kernel_reading.specs.Kernels.{read, Source}
+use Rattle.kernel_reading.specs.Answers as reading
 use Rattle.launch_text.specs.Answers as launches
 use Rattle.certificate.specs.Certificates.{Says}
 use Rattle.plain_kernels.specs.Domains.{domain}

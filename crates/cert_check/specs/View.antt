@@ -1,5 +1,5 @@
 -- What an accepted kernel keeps.
-use Rattle.types.specs.TypedKernel.{TypedKernel}
+use Rattle.typed_kernels.specs.TypedKernel.{TypedKernel}
 use Rattle.launch.specs.declared.conditions.Conditions.{Conditions}
 use Rattle.cert_check.specs.declared.accepted.Accepted.{Accepted}
 

@@ -10,7 +10,7 @@ ghost use Rattle.cert_check.specs.Accepting.{IsAcceptedWithin, HasParameters};
 ghost use Rattle.cert_check.specs.Properties.{stores_kept-prop};
 
 use launch::conditions::Conditions;
-use types::typed::Typed;
+use typed_kernels::Typed;
 
 /// A kernel with conditions under which it was accepted: at each launch that meets them it is pair-safe within the budget, in the solo runs
 /// whose loads are answered by what their lines let buffers hold. As all that is read it is proper and orderly.

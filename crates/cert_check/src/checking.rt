@@ -4,19 +4,19 @@ ghost use Rattle.std.specs.Prelude.{◌≡◌, ℕ, List, Bool, true, false, map
 ghost use Rattle.semantics.specs.Conditions as meaning;
 ghost use Rattle.launch.specs.View.{conditions as conditions_seen};
 ghost use Rattle.launch_text.specs.View.{lined};
-ghost use Rattle.texts.specs.ConditionsReading.{conditions_of};
+ghost use Rattle.launch_text.specs.ConditionsReading.{conditions_of};
 ghost use Rattle.kernel_names.specs.View.{names_seen};
 ghost use Rattle.core_code.specs.View.{kernel as core_seen};
 ghost use Rattle.facts.specs.Launching.{are_sizes};
 ghost use Rattle.arrivals.specs.Places as meant;
 ghost use Rattle.places.specs.Answers.{IsRefused};
 ghost use Rattle.places.specs.View.{place as place_seen};
-ghost use Rattle.texts.specs.Scope.{Bits32};
-ghost use Rattle.reading.specs.Kernels.{read, text_for};
-ghost use Rattle.reading.specs.Sources.{source};
-ghost use Rattle.reading.specs.Answers.{kernel_seen};
+ghost use Rattle.kernel_reading.specs.Kernels as kernel_texts;
+ghost use Rattle.kernel_reading.specs.Kernels.{read, text_for};
+ghost use Rattle.kernel_reading.specs.Sources.{source};
+ghost use Rattle.kernel_reading.specs.Answers.{kernel_seen};
 ghost use Rattle.cert_check.specs.Accepting.{IsAccepted, IsAcceptedBy, IsAcceptedWithin, HasHeadline};
-ghost use Rattle.cert_check.specs.Alike.{AreAlike, AreNotOfTwo, HoldsOf, HoldsOfBy, IsOfOneOrTwo};
+ghost use Rattle.cert_check.specs.Alike.{AreAlike, AreNotOfTwoOrThree, HoldsOf, HoldsOfBy, IsOfOneOrTwo};
 ghost use Rattle.cert_check.specs.Checked.{AllIsShown, IsTold, StopsBy};
 ghost use Rattle.cert_check.specs.Refusing.{AreMet, IsPassed, IsPassedBy, Tells, TellsBy};
 ghost use Rattle.cert_check.specs.Told.{IsToldOf};
@@ -31,6 +31,8 @@ use certificate_text::laws::either_version_is_read;
 use domain::Elements;
 use entry_check::ShowError;
 use kernel_names::{NameMap, site_at};
+use kernel_reading::laws::local_sizes_are_within_limits;
+use kernel_reading::{Source, narrow, read_source};
 use launch::conditions::Conditions;
 use launch_text::error::LaunchTextError;
 use launch_text::laws::texts_of_version_1_are_read_alike;
@@ -39,15 +41,13 @@ use places::{Place, PlaceError, places};
 use plain_kernels::laws::{
     forms_of_plain_kernels_fit, plain_kernels_have_one_place, ranges_of_plain_kernels_are_settled,
 };
-use reading::laws::local_sizes_are_within_limits;
-use reading::{Source, narrow, read_source};
 use reduction::pair_safe_within_on_devices;
 use semantics::honesty::{launches_begin_kept, without_lines_all_runs_are_honest};
 use shown_kernels::laws::what_is_read_and_shown_is_pair_safe_within;
 use shown_kernels::proper::what_is_read_is_proper;
 use shown_kernels::sound::what_is_read_is_orderly;
 use std::alloc::Global;
-use types::typed::Typed;
+use typed_kernels::Typed;
 
 /// The refusal of a kernel that has no places, with its place in the source.
 fn unplaced(typed: &Typed, error: PlaceError) -> CheckError
@@ -162,7 +162,7 @@ pub fn check_as(
     ensures plain { OnPlainBy is_wide result (source kernel.entry) conditions.now certificate.now }
     ensures two { (two : List ℕ) → AreAlike certificate.now two → HoldsOfBy is_wide result (source kernel.entry) conditions.now two }
     ensures one { (one : List ℕ) → AreAlike one certificate.now → HoldsOfBy is_wide result (source kernel.entry) conditions.now one }
-    ensures alike { IsOfOneOrTwo certificate.now → AreNotOfTwo conditions.now → HoldsOf result (source kernel.entry) conditions.now certificate.now }
+    ensures alike { IsOfOneOrTwo certificate.now → AreNotOfTwoOrThree conditions.now → HoldsOf result (source kernel.entry) conditions.now certificate.now }
     ensures pair { IfOk result (λ a. IsAcceptedBy is_wide (core_seen (typed_of a).1) (conditions_seen (kept a))) }
     ensures headline { IfOk result (λ a. HasHeadline (core_seen (typed_of a).1) (conditions_seen (kept a))) }
 {
@@ -204,21 +204,21 @@ pub fn check(
     conditions: &[u8],
     certificate: &[u8],
 ) -> Result<Accepted, CheckError>
-    ensures kernel { IfOk result (λ a. read (text_for Bits32 kernel.now) ≡ Ok (kernel_seen (typed_of a))) }
+    ensures kernel { IfOk result (λ a. read (text_for kernel_texts.narrow kernel.now) ≡ Ok (kernel_seen (typed_of a))) }
     ensures conditions { IfOk result (λ a. conditions_of false (names_seen (typed_of a).0).parameters conditions.now ≡ Ok (lined (kept a))) }
     ensures passed { IfOk result (λ a. IsPassed (typed_of a) (conditions_seen (kept a)) certificate.now) }
-    ensures refused { Tells result (text_for Bits32 kernel.now) conditions.now certificate.now }
-    ensures plain { OnPlain result (text_for Bits32 kernel.now) conditions.now certificate.now }
-    ensures two { (two : List ℕ) → AreAlike certificate.now two → HoldsOf result (text_for Bits32 kernel.now) conditions.now two }
-    ensures one { (one : List ℕ) → AreAlike one certificate.now → HoldsOf result (text_for Bits32 kernel.now) conditions.now one }
+    ensures refused { Tells result (text_for kernel_texts.narrow kernel.now) conditions.now certificate.now }
+    ensures plain { OnPlain result (text_for kernel_texts.narrow kernel.now) conditions.now certificate.now }
+    ensures two { (two : List ℕ) → AreAlike certificate.now two → HoldsOf result (text_for kernel_texts.narrow kernel.now) conditions.now two }
+    ensures one { (one : List ℕ) → AreAlike one certificate.now → HoldsOf result (text_for kernel_texts.narrow kernel.now) conditions.now one }
     ensures pair { IfOk result (λ a. IsAccepted (core_seen (typed_of a).1) (conditions_seen (kept a))) }
     ensures headline { IfOk result (λ a. HasHeadline (core_seen (typed_of a).1) (conditions_seen (kept a))) }
 {
     check_as(alloc, narrow(kernel), conditions, certificate, false)
 }
 
-/// As `check`, of conditions of version 2 and of certificates of version 4, too: these are wide, and with them the check knows more of a
-/// kernel. What is accepted is pair-safe in the runs whose loads are answered by what the conditions let buffers hold; where no line says
+/// As `check`, of conditions of versions 2 and 3 and of certificates of version 4, too: these are wide, and with them the check knows more of
+/// a kernel. What is accepted is pair-safe in the runs whose loads are answered by what the conditions let buffers hold; where no line says
 /// what they hold it is pair-safe as ever. Of conditions of version 1 and a certificate of version 1 or 2 the answer holds as that of
 /// `check`.
 pub fn check_wide(
@@ -227,14 +227,14 @@ pub fn check_wide(
     conditions: &[u8],
     certificate: &[u8],
 ) -> Result<Accepted, CheckError>
-    ensures kernel { IfOk result (λ a. read (text_for Bits32 kernel.now) ≡ Ok (kernel_seen (typed_of a))) }
+    ensures kernel { IfOk result (λ a. read (text_for kernel_texts.narrow kernel.now) ≡ Ok (kernel_seen (typed_of a))) }
     ensures conditions { IfOk result (λ a. conditions_of true (names_seen (typed_of a).0).parameters conditions.now ≡ Ok (lined (kept a))) }
     ensures passed { IfOk result (λ a. IsPassedBy true (typed_of a) (conditions_seen (kept a)) certificate.now) }
-    ensures refused { TellsBy true result (text_for Bits32 kernel.now) conditions.now certificate.now }
-    ensures plain { OnPlainBy true result (text_for Bits32 kernel.now) conditions.now certificate.now }
-    ensures two { (two : List ℕ) → AreAlike certificate.now two → HoldsOfBy true result (text_for Bits32 kernel.now) conditions.now two }
-    ensures one { (one : List ℕ) → AreAlike one certificate.now → HoldsOfBy true result (text_for Bits32 kernel.now) conditions.now one }
-    ensures alike { IsOfOneOrTwo certificate.now → AreNotOfTwo conditions.now → HoldsOf result (text_for Bits32 kernel.now) conditions.now certificate.now }
+    ensures refused { TellsBy true result (text_for kernel_texts.narrow kernel.now) conditions.now certificate.now }
+    ensures plain { OnPlainBy true result (text_for kernel_texts.narrow kernel.now) conditions.now certificate.now }
+    ensures two { (two : List ℕ) → AreAlike certificate.now two → HoldsOfBy true result (text_for kernel_texts.narrow kernel.now) conditions.now two }
+    ensures one { (one : List ℕ) → AreAlike one certificate.now → HoldsOfBy true result (text_for kernel_texts.narrow kernel.now) conditions.now one }
+    ensures alike { IsOfOneOrTwo certificate.now → AreNotOfTwoOrThree conditions.now → HoldsOf result (text_for kernel_texts.narrow kernel.now) conditions.now certificate.now }
     ensures pair { IfOk result (λ a. IsAcceptedWithin (core_seen (typed_of a).1) (conditions_seen (kept a))) }
     ensures headline { IfOk result (λ a. HasHeadline (core_seen (typed_of a).1) (conditions_seen (kept a))) }
 {

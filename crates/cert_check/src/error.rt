@@ -7,8 +7,8 @@ ghost use Rattle.cert_check.specs.Numbers as numbers;
 use certificate::error::CertError;
 use core_code::tree::Site;
 pub use entry_check::{Pointer, ShowError};
+use kernel_reading::KernelError;
 use launch_text::error::LaunchTextError;
-use reading::KernelError;
 use thiserror::Error;
 
 /// Why a kernel is refused, or want of memory.
@@ -82,6 +82,7 @@ impl CheckError {
         ensures { result ≡ error_place self.now }
     {
         match self {
+            CheckError::Kernel(KernelError::Head(error)) => at_line(error.place().map(u64::from)),
             CheckError::Kernel(error) => at_place(error.place()),
             CheckError::Conditions(error) => at_line(error.place().map(u64::from)),
             CheckError::Missed(site) | CheckError::ManyPaths(site) => Some(at_site(*site)),

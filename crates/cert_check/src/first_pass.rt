@@ -29,7 +29,7 @@ use entry_check::{no_flags, set_flag};
 use obligations::Notes;
 use places::Place;
 use std::alloc::Global;
-use types::typed::Typed;
+use typed_kernels::Typed;
 
 /// Notes of a kernel's places and loops, none where it lacks what a certificate names, and which obligations have an entry.
 #[derive(Drop)]

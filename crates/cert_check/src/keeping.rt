@@ -10,7 +10,7 @@ ghost use Rattle.cert_check.specs.View.{typed_of, kept};
 
 use crate::accepted::Accepted;
 use launch::conditions::Conditions;
-use types::typed::Typed;
+use typed_kernels::Typed;
 
 impl Accepted {
     /// A kernel with conditions under which it is accepted, as the caller has shown.

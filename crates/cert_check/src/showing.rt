@@ -29,7 +29,7 @@ use obligations::Notes;
 use places::Place;
 use shown_kernels::laws::noted_rankings_are_limits;
 use std::alloc::Global;
-use types::typed::Typed;
+use typed_kernels::Typed;
 
 /// An item may take more steps than the budget.
 fn is_over(core: &Core, notes: &Notes, budget: u64) -> bool

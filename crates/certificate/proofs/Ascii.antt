@@ -4,9 +4,9 @@ use Rattle.std.specs.Str.{IsAscii, IsUtf8}
 use Rattle.std.proofs.lemmas.Str.{IsUtf8-from_ascii}
 use Rattle.std.proofs.lemmas.Str.Ascii.{IsAscii-nil, IsAscii-cons}
 use Rattle.std.proofs.lemmas.Bool.Decides.{nat_tests}
-use Rattle.texts.specs.Tokens.{is_letter, is_word_byte}
-use Rattle.texts.specs.Identifiers.{all_word_bytes, is_identifier}
-use Rattle.texts.proofs.Fits.{both}
+use Rattle.lines.specs.Bytes.{is_letter, is_word_byte}
+use Rattle.lines.specs.Identifiers.{all_word_bytes, is_identifier}
+use Rattle.lines.proofs.Fronts.{both}
 
 low : (b : ℕ) → is_word_byte b ≡ true → b < 128
 low b h = grind (arith, nat_tests)

@@ -3,7 +3,7 @@ use Rattle.std.proofs.Common.{◌≡◌, ℕ, suc, ◌+◌, ◌<◌, Bool, true,
 use Rattle.std.specs.Prelude.{Result, IsErr, IsErrAnd, IfErr, nat_eq}
 use Rattle.std.proofs.lemmas.Bool.{cond_both}
 use Rattle.std.proofs.lemmas.List.{append-nil, map-append}
-use Rattle.texts.specs.Lines.{is_empty}
+use Rattle.lines.specs.Lines.{is_empty}
 use Rattle.certificate_text.specs.Certificate.{Entry, Certificate, CertificateFault, BadLine, OtherVersion}
 use Rattle.certificate_text.specs.FormTables.{FormTable}
 use Rattle.certificate_text.specs.Reading.{Read, is_ended, unless}

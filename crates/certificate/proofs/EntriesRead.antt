@@ -2,7 +2,7 @@
 use Rattle.std.proofs.Common.{◌≡◌, ℕ, suc, ◌+◌, Bool, true, false, cond, ◌&&◌, ◌||◌, List, [], ◌∷◌, ◌++◌, length, Option, None, Some, Ok, Err, refl, ap, sym, ◌∙◌, append_assoc}
 use Rattle.std.specs.Prelude.{nat_lt, nat_eq}
 use Rattle.std.proofs.lemmas.List.{append-nil}
-use Rattle.texts.specs.Lines.{is_empty, follows, words}
+use Rattle.lines.specs.Lines.{is_empty, follows, words}
 use Rattle.certificate_text.specs.Certificate.{Place, Bound, Entry, BadLine}
 use Rattle.certificate_text.specs.Forms.{then, when}
 use Rattle.certificate_text.specs.FormTables.{FormTable}

@@ -4,7 +4,7 @@ use Rattle.std.specs.Prelude.{MatchOption, option_to_list, is_some}
 use Rattle.std.specs.Option.{option_map}
 use Rattle.std.proofs.lemmas.Bool.{cond-true, cond-false}
 use Rattle.std.proofs.lemmas.List.{length-map}
-use Rattle.texts.specs.Lines.{is_empty}
+use Rattle.lines.specs.Lines.{is_empty}
 use Rattle.certificate_text.specs.Certificate.{Place, Bound, Entry, CertificateFault, BadLine}
 use Rattle.certificate_text.specs.Drafts.{Open, draft, certificate_with}
 use Rattle.certificate_text.specs.FormTables.{FormTable}

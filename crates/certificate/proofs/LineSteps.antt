@@ -1,6 +1,6 @@
 -- The reader of sums, a turn at a time.
 use Rattle.std.proofs.Common.{◌≡◌, ℕ, List, ◌∷◌, [], ◌++◌, true, Some, refl}
-use Rattle.texts.specs.Lines.{follows}
+use Rattle.lines.specs.Lines.{follows}
 use Rattle.certificate_text.specs.Certificate.{Scaled}
 use Rattle.certificate_text.specs.Lines.{line_is_before, scaled_of, sum_of}
 

@@ -6,7 +6,7 @@ use Rattle.std.specs.Fmt.{decimal}
 use Rattle.std.proofs.lemmas.List.{append-nil, drop_more, drop_all}
 use Rattle.std.proofs.lemmas.Option.{slice_get_within, get_or_from_slice_get}
 use Rattle.linear.specs.Linear.{Form}
-use Rattle.texts.specs.Lines.{text_of_lines}
+use Rattle.lines.specs.Lines.{text_of_lines}
 use Rattle.certificate_text.specs.Certificate.{Name, Place, Bound, EntrySort, Show, Positive, Negative, Quotient, Lemma, Entry, Certificate}
 use Rattle.certificate_text.specs.Text.{main_lines, step_line}
 use Rattle.certificate_text.specs.Lines.{EntryItem}

@@ -5,7 +5,7 @@ use Rattle.certificate_text.specs.Reading.{Read, certificate_of}
 use Rattle.certificate_text.specs.NumberedReading.{certificate_of_two, certificate_of_four}
 use Rattle.certificate_text.specs.Rules.{is_any_certificate}
 use Rattle.certificate_text.specs.Versions.{unless_other, certificate_in, certificate_any}
-use Rattle.texts.proofs.Fits.{both}
+use Rattle.lines.proofs.Fronts.{both}
 use Rattle.certificate_text.proofs.Read.{certificate_back}
 use Rattle.certificate_text.proofs.NumberedRead.{certificate_of_two_back, certificate_of_four_back}
 

@@ -4,7 +4,7 @@ use Rattle.std.specs.Prelude.{max, nat_le}
 use Rattle.std.proofs.lemmas.Option.{slice_get_within}
 use Rattle.std.proofs.Math.Nat.{max-le}
 use Rattle.linear.specs.Linear.{Form}
-use Rattle.texts.specs.Lines.{is_empty, words}
+use Rattle.lines.specs.Lines.{is_empty, words}
 use Rattle.certificate_text.specs.Certificate.{Name, Spot, Bound, EntrySort, Entry, Certificate}
 use Rattle.certificate_text.specs.FormTables.{FormTable, form_at}
 use Rattle.certificate_text.specs.Items.{line_forms, put_forms}

@@ -2,7 +2,7 @@
 use Rattle.std.proofs.Common.{◌≡◌, ℕ, List, ◌∷◌, [], ◌++◌, true, Some, ◌&&◌, refl}
 use Rattle.std.specs.Prelude.{codes, bytes_eq}
 use Rattle.linear.specs.Linear.{Weighted}
-use Rattle.texts.specs.Lines.{follows}
+use Rattle.lines.specs.Lines.{follows}
 use Rattle.certificate_text.specs.Certificate.{Name}
 use Rattle.certificate_text.specs.Forms.{term_of, term_is_before, form_of}
 

@@ -1,6 +1,6 @@
 -- What is left of a certificate's text behind the line of its first entry: entries, and how they end.
 use Rattle.std.specs.Prelude.{ℕ, suc, List, [], ◌∷◌, ◌++◌, Bool, true, false, cond, Option, None, Some, Ok, Err}
-use Rattle.texts.specs.Lines.{is_empty}
+use Rattle.lines.specs.Lines.{is_empty}
 use Rattle.certificate_text.specs.Certificate.{Entry, Certificate, CertificateFault, BadLine}
 use Rattle.certificate_text.specs.Forms.{then}
 use Rattle.certificate_text.specs.FormTables.{FormTable}

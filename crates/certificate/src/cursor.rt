@@ -2,7 +2,7 @@
 
 ghost use Rattle.std.specs.Prelude.{◌≡◌, ◌+◌, ◌≤◌, ◌^◌, true, length};
 ghost use Rattle.std.specs.Option.{option_map};
-ghost use Rattle.texts.specs.Lines.{is_empty};
+ghost use Rattle.lines.specs.Lines.{is_empty};
 ghost use Rattle.certificate_text.specs.NumberedReading as reading;
 ghost use Rattle.lines.specs.Left.{left as lines_left};
 ghost use Rattle.certificate.specs.Answers.{fault};

@@ -49,7 +49,7 @@ fn with_entries(front: Parts, entries: Vec<Entry>) -> Parts
 
 impl<'a> Entries<'a> {
     ghost use Rattle.std.specs.Prelude.{◌+◌, ◌^◌, [], map, true, Option, None, Some, Ok, Err, IfOk, IfErr};
-    ghost use Rattle.texts.specs.Lines.{is_empty};
+    ghost use Rattle.lines.specs.Lines.{is_empty};
     ghost use Rattle.certificate_text.specs.Certificate as certificates;
     ghost use Rattle.certificate_text.specs.Rules.{is_any_certificate};
     ghost use Rattle.lines.specs.Left.{left as lines_left};

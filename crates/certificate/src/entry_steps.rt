@@ -2,7 +2,7 @@
 
 ghost use Rattle.std.specs.Prelude.{◌≡◌, ◌≤◌, true, length};
 ghost use Rattle.std.specs.Option.{option_map};
-ghost use Rattle.texts.specs.Lines.{is_empty};
+ghost use Rattle.lines.specs.Lines.{is_empty};
 ghost use Rattle.certificate.specs.EntriesLeft.{add_row as row_added};
 ghost use Rattle.certificate.specs.EntryAnswers.{Goes, left_at, settled_first, taken};
 ghost use Rattle.certificate.specs.Numbers.{numbered_draft};

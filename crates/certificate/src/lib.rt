@@ -1,5 +1,5 @@
-//! Section: Gate. Promises exactly the certificate of a text, and the text of a certificate, in all three versions; stands on `texts` and
-//! `lines`.
+//! Section: Gate. Promises exactly the certificate of a text, in all three versions, and the text of a certificate in the last two; stands
+//! on `certificate_text` and `lines`.
 //!
 //! Certificates as trees, and what may stand behind what in them; their words, their lines, and their whole texts.
 #![tactic(auto)]
@@ -32,7 +32,6 @@ pub mod spelling;
 mod tabling;
 pub mod tree;
 pub mod word;
-mod writer;
 
 pub use certificate::Certificate;
 pub use either_reader::{open_any, open_two, open_wide, read, read_any, read_one, read_wide};
@@ -40,4 +39,3 @@ pub use entry_reader::Entries;
 pub use migration::migrate;
 pub use numbered_writer::{write, write_wide};
 pub use reader::{LIMIT, open_one};
-pub use writer::write_one;

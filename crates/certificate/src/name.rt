@@ -2,7 +2,7 @@
 
 ghost use Rattle.std.specs.Prelude.{◌≡◌, ◌&&◌, [], map, IfOk, bytes_eq, codes};
 ghost use Rattle.std.specs.String.{string_bytes};
-ghost use Rattle.texts.specs.Lines.{follows};
+ghost use Rattle.lines.specs.Lines.{follows};
 ghost use Rattle.certificate_text.specs.Certificate.{Product};
 ghost use Rattle.certificate_text.specs.Forms as forms;
 ghost use Rattle.lines.specs.Left.{left};

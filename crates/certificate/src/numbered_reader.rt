@@ -2,7 +2,7 @@
 
 ghost use Rattle.std.specs.Prelude.{◌≡◌, ◌≤◌, ◌^◌, [], length};
 ghost use Rattle.std.specs.Option.{option_map};
-ghost use Rattle.texts.specs.Lines.{words};
+ghost use Rattle.lines.specs.Lines.{words};
 ghost use Rattle.certificate_text.specs.Drafts as drafting;
 ghost use Rattle.certificate_text.specs.NumberedReading as reading;
 ghost use Rattle.certificate_text.specs.Reading as reading_one;

@@ -4,7 +4,7 @@ ghost use Rattle.std.specs.Prelude.{◌≡◌, ◌++◌, [], ◌∷◌, map, IfO
 ghost use Rattle.std.specs.List.{flat_map};
 ghost use Rattle.std.specs.Fmt.{decimal};
 ghost use Rattle.std.specs.String.{string_bytes};
-ghost use Rattle.texts.specs.Lines.{text_of_lines};
+ghost use Rattle.lines.specs.Lines.{text_of_lines};
 ghost use Rattle.certificate_text.specs.FormTables as tables;
 ghost use Rattle.certificate_text.specs.NumberedText as text;
 ghost use Rattle.certificate.specs.View as view;

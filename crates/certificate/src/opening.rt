@@ -1,7 +1,7 @@
 //! What stands before the entries of a certificate's text, line by line.
 
 ghost use Rattle.std.specs.Prelude.{◌≡◌, ◌+◌, ◌≤◌, ◌^◌, true, false, length};
-ghost use Rattle.texts.specs.Lines.{is_empty};
+ghost use Rattle.lines.specs.Lines.{is_empty};
 ghost use Rattle.lines.specs.Left.{left};
 ghost use Rattle.certificate.specs.Drafts as drafts;
 ghost use Rattle.certificate.specs.EntriesLeft.{has_begun as begins, read_rows};

@@ -1,7 +1,7 @@
 //! What may stand behind what: places, loops, entries, lines of a sum and names rise.
 
 ghost use Rattle.std.specs.Prelude.{◌≡◌, map, IfOk};
-ghost use Rattle.texts.specs.Lines as lines;
+ghost use Rattle.lines.specs.Lines as lines;
 ghost use Rattle.certificate_text.specs.Forms as forms;
 ghost use Rattle.certificate_text.specs.Lines as meaning;
 ghost use Rattle.certificate_text.specs.Drafts as drafting;

@@ -3,9 +3,9 @@
 ghost use Rattle.std.specs.Prelude.{◌≡◌, ◌&&◌, map, IfOk};
 ghost use Rattle.std.specs.String.{string_bytes};
 ghost use Rattle.certificate_text.specs.Forms as forms;
-ghost use Rattle.texts.specs.Identifiers as identifiers;
+ghost use Rattle.lines.specs.Identifiers as identifiers;
 ghost use Rattle.certificate_text.specs.Rules as rules;
-ghost use Rattle.texts.specs.Lines as numbers;
+ghost use Rattle.lines.specs.Lines as numbers;
 ghost use Rattle.certificate.specs.View as view;
 
 use crate::order::in_order;

@@ -3,10 +3,10 @@
 ghost use Rattle.std.specs.Prelude.{◌≡◌, ◌<◌, ◌^◌, List, ℕ, nat_le, IfSome};
 ghost use Rattle.std.specs.Option.{option_map};
 ghost use Rattle.std.specs.Str.{bytes_eq};
-ghost use Rattle.texts.specs.Tokens.{is_letter, is_word_byte};
-ghost use Rattle.texts.specs.Lines.{natural_of, integer_of};
+ghost use Rattle.lines.specs.Bytes.{is_letter, is_word_byte};
+ghost use Rattle.lines.specs.Lines.{natural_of, integer_of};
 ghost use Rattle.certificate_text.specs.Forms as forms;
-ghost use Rattle.texts.specs.Identifiers as identifiers;
+ghost use Rattle.lines.specs.Identifiers as identifiers;
 ghost use Rattle.certificate_text.specs.Lines as meaning;
 ghost use Rattle.lines.specs.Left.{left};
 ghost use Rattle.certificate.specs.View as view;

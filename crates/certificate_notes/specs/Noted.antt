@@ -7,7 +7,7 @@ use Rattle.facts.specs.Symbols.{Fact}
 use Rattle.arrivals.specs.Places as places
 use Rattle.obligations.specs.Notes as notes
 use Rattle.certificate_text.specs.Rules.{all}
-use Rattle.texts.specs.Lines.{is_natural}
+use Rattle.lines.specs.Lines.{is_natural}
 use Rattle.kernel_names.specs.NameMap.{NameMap}
 use Rattle.certificate_text.specs.Certificate as certificate
 use Rattle.certificate_text.specs.Certificate.{Descent, Down, Halve, Double, EntrySort, Show, Positive, Negative, Quotient, Name, Certificate}

@@ -21,7 +21,7 @@ use certificate::tree;
 use certificate::tree::Lemma;
 use linear::Form;
 use std::alloc::Global;
-use types::typed::Typed;
+use typed_kernels::Typed;
 
 /// All that lemmas may name of a kernel.
 pub fn names_of(alloc: Global, kernel: &Typed) -> Result<Names<'_>, NamesError>

@@ -30,7 +30,7 @@ use certificate::tree::Entry;
 use obligations::Notes;
 use places::Place;
 use std::alloc::Global;
-use types::typed::Typed;
+use typed_kernels::Typed;
 
 /// Takes entries, one by one.
 fn add_all(

@@ -23,7 +23,7 @@ use std::alloc::{AllocError, Global};
 use std::thread::Threads;
 use supports::Supports;
 use text_guesses::{guess_plainly, guess_rankings};
-use types::typed::Typed;
+use typed_kernels::Typed;
 
 /// How many workers ask what guesses rest on, at most.
 const WORKERS: u32 = 64;

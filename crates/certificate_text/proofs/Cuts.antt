@@ -7,10 +7,10 @@ use Rattle.std.proofs.lemmas.Bool.{cond_both}
 use Rattle.std.proofs.lemmas.List.{append-nil}
 use Rattle.std.proofs.lemmas.List.Splits.{join_with_byte-slice_split}
 use Rattle.std.proofs.lemmas.Slice.Eq.{bytes_eq-Decides}
-use Rattle.texts.specs.Lines.{NumberFault, is_empty, pieces, sole, two, first, follows}
+use Rattle.lines.specs.Lines.{NumberFault, is_empty, pieces, sole, two, first, follows}
 use Rattle.certificate_text.specs.Forms.{then, when, number, begins as begins_so}
 use Rattle.certificate_text.specs.Rules.{all, rises}
-use Rattle.texts.proofs.Fits.{begins, both}
+use Rattle.lines.proofs.Fronts.{begins, both}
 
 -- words with a separator before each
 abbrev pub parted : (separator : ℕ) → List (List ℕ) → List ℕ

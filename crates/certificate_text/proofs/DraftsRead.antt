@@ -3,13 +3,13 @@ use Rattle.std.proofs.Common.{◌≡◌, ℕ, Bool, true, not, ◌&&◌, ◌||�
 use Rattle.std.specs.List.{flat_map}
 use Rattle.std.proofs.lemmas.Grind.{flat_map-append}
 use Rattle.std.proofs.lemmas.List.{append-nil, map_push}
-use Rattle.texts.specs.Lines.{is_empty, follows, words}
+use Rattle.lines.specs.Lines.{is_empty, follows, words}
 use Rattle.certificate_text.specs.Certificate.{Spot, Place, Bound, EntrySort, Entry, Certificate}
 use Rattle.certificate_text.specs.Lines.{Item, PlaceItem, SameItem, FactItem, CongruenceItem, MultipleItem, BoundItem, EntryItem, LemmaItem, MainItem, StepItem, EndItem, item_of}
 use Rattle.certificate_text.specs.Drafts.{place_is_behind, bound_is_behind, entry_is_behind, Open, Nothing, InPlace, InEntry, InLemma, Ended, Draft, draft, certificate_with, has_line, settle, place_fits, bound_fits, entry_fits, place_at, entry_at, add_to, add_place, add_bound, add_entry, add_end, add_within, add}
 use Rattle.certificate_text.specs.Reading.{add_fitting, add_line}
 use Rattle.certificate_text.specs.Rules.{all, rises, is_spot, is_open_place, is_place, is_bound, is_sort, is_entry, place_is_before, bound_is_before, entry_is_before, is_narrow_item, is_written}
-use Rattle.texts.proofs.Fits.{both}
+use Rattle.lines.proofs.Fronts.{both}
 use Rattle.certificate_text.proofs.Cuts.{then_back, when_back, cond_back, all_push, rises_push, none_left}
 use Rattle.certificate_text.proofs.FormsRead.{three}
 use Rattle.certificate_text.specs.Items.{place_items, entry_items, items_of, item_line}

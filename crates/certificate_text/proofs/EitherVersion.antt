@@ -2,7 +2,7 @@
 use Rattle.std.proofs.Common.{◌≡◌, ℕ, ◌≤◌, Bool, true, false, List, [], ◌∷◌, length, Some, Ok, Err, refl, ap, sym, ◌∙◌}
 use Rattle.std.specs.Prelude.{nat_lt}
 use Rattle.std.proofs.lemmas.Bool.{cond-false, cond_both}
-use Rattle.texts.specs.Lines.{is_empty, line_feed, pieces, words}
+use Rattle.lines.specs.Lines.{is_empty, line_feed, pieces, words}
 use Rattle.certificate_text.specs.Certificate.{Certificate, BadLine, OtherVersion}
 use Rattle.certificate_text.specs.Drafts.{nothing_yet}
 use Rattle.certificate_text.specs.Reading.{Read, read_lines, head_of_version, head_fault, version_of, unless, read_text, certificate_limit, certificate_of}

@@ -4,7 +4,7 @@ use Rattle.std.specs.Prelude.{pos, negsuc, codes, bytes_eq}
 use Rattle.std.specs.Fmt.{decimal}
 use Rattle.std.proofs.lemmas.Fmt.{decimal_digit}
 use Rattle.linear.specs.Linear.{Form}
-use Rattle.texts.specs.Lines.{pieces, natural_of, integer_of}
+use Rattle.lines.specs.Lines.{pieces, natural_of, integer_of}
 use Rattle.certificate_text.specs.Certificate.{First, Name, Variable, Local, Double, BadLine, OtherVersion}
 use Rattle.certificate_text.specs.Text.{term_text, form_text}
 use Rattle.certificate_text.specs.Forms.{when, weighted, form, form_of, name_of, dimensional_of}

@@ -1,7 +1,7 @@
 -- What texts of version 4 say of products, multiples and lemmas, by computation.
 use Rattle.std.proofs.Common.{◌≡◌, true, false, [], ◌∷◌, None, Ok, Err, refl}
 use Rattle.std.specs.Prelude.{pos, codes}
-use Rattle.texts.specs.Lines.{natural_of, integer_of}
+use Rattle.lines.specs.Lines.{natural_of, integer_of}
 use Rattle.certificate_text.specs.Certificate.{Variable, Argument, Group, Second, Product, Barrier, Show, Given, BadLine}
 use Rattle.certificate_text.specs.Forms.{weighted, form, form_of, name_of, dimensional_of}
 use Rattle.certificate_text.specs.Lines.{congruence_of, multiple_of, bound_of, entry_of, sum_of, item_of}

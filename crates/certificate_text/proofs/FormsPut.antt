@@ -2,13 +2,13 @@
 use Rattle.std.proofs.Common.{◌≡◌, ℕ, true, ◌&&◌, List, [], ◌∷◌, length, refl, ap, arith}
 use Rattle.std.specs.Prelude.{nat_le}
 use Rattle.linear.specs.Linear.{Form}
-use Rattle.texts.specs.Lines.{is_natural}
+use Rattle.lines.specs.Lines.{is_natural}
 use Rattle.certificate_text.specs.Certificate.{Name, Congruence, Multiple, Bound, EntrySort, Show, Positive, Negative, Quotient}
 use Rattle.certificate_text.specs.Lines.{Item, PlaceItem, SameItem, FactItem, CongruenceItem, MultipleItem, BoundItem, EntryItem, LemmaItem, MainItem, StepItem, EndItem}
 use Rattle.certificate_text.specs.Rules.{all, is_form, is_congruence, is_bound, is_descent, is_sort}
-use Rattle.texts.specs.Lines.{is_integer}
+use Rattle.lines.specs.Lines.{is_integer}
 use Rattle.certificate_text.specs.Items.{sort_forms, line_forms, first_or, second_or, put_sort_forms, put_forms}
-use Rattle.texts.proofs.Fits.{both}
+use Rattle.lines.proofs.Fronts.{both}
 use Rattle.certificate_text.proofs.FormsRead.{three}
 use Rattle.certificate_text.proofs.PartsRead.{is_constant, is_item, is_part}
 use Rattle.certificate_text.proofs.ItemsRead.{constant_form}

@@ -10,15 +10,15 @@ use Rattle.std.proofs.lemmas.List.{append-nil}
 use Rattle.std.proofs.lemmas.Grind.{flat_map-append}
 use Rattle.std.proofs.lemmas.Slice.Eq.{bytes_eq-Decides}
 use Rattle.linear.specs.Linear.{Weighted, Form}
-use Rattle.texts.specs.Lines.{is_empty, pieces, first, sole, natural_of, integer_of, follows}
+use Rattle.lines.specs.Lines.{is_empty, pieces, first, sole, natural_of, integer_of, follows}
 use Rattle.certificate_text.specs.Certificate.{Dimension, First, Second, Third, Name, Variable, AtAnchor, Turns, Fresh, Argument, Length, Groups, Group, Local, Product}
 use Rattle.certificate_text.specs.Text.{dimension_text, name_text, term_text, form_text}
 use Rattle.certificate_text.specs.Forms.{number, identifier_of, dimension_of, dimensional_of, name_of, second_of, factor_of, in_order, pair_of, triple_of, names_of, weighted, term_of, term_is_before, form, form_of}
-use Rattle.texts.specs.Identifiers.{is_identifier}
+use Rattle.lines.specs.Identifiers.{is_identifier}
 use Rattle.certificate_text.specs.Rules.{all, rises, is_plain_name, is_factor, names_rise, is_pair, is_name, is_term, is_form}
-use Rattle.texts.specs.Lines.{is_natural, is_integer}
-use Rattle.texts.proofs.Fits.{both}
-use Rattle.texts.proofs.Decimals.{natural_back, integer_back}
+use Rattle.lines.specs.Lines.{is_natural, is_integer}
+use Rattle.lines.proofs.Fronts.{both}
+use Rattle.lines.proofs.Decimals.{natural_back, integer_back}
 use Rattle.certificate_text.proofs.Cuts.{parted, spaced, pieces_back, then_back, map_back, when_back, cond_back, number_back, first_back, sole_back, none_left, by_word, by_front, all_push, rises_push}
 
 pub identifier_back : (w s : List ℕ) → identifier_of w ≡ Some s → (s ≡ w) × (is_identifier s ≡ true)

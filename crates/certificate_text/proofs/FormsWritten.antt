@@ -8,14 +8,14 @@ use Rattle.std.specs.Fmt.{signed_decimal}
 use Rattle.std.proofs.lemmas.Bool.{cond-true}
 use Rattle.std.proofs.lemmas.List.{append-nil}
 use Rattle.linear.specs.Linear.{Weighted, Form}
-use Rattle.texts.specs.Lines.{pieces, first, follows}
+use Rattle.lines.specs.Lines.{pieces, first, follows}
 use Rattle.certificate_text.specs.Certificate.{Name}
 use Rattle.certificate_text.specs.Text.{name_text, term_text, form_text}
 use Rattle.certificate_text.specs.Forms.{then, when, number, names_of, weighted, term_in, term_of, term_is_before, form, form_of}
 use Rattle.certificate_text.specs.Rules.{all, rises, is_name, is_term, is_form}
-use Rattle.texts.specs.Lines.{is_integer}
-use Rattle.texts.proofs.Fits.{both}
-use Rattle.texts.proofs.Decimals.{integer_forth}
+use Rattle.lines.specs.Lines.{is_integer}
+use Rattle.lines.proofs.Fronts.{both}
+use Rattle.lines.proofs.Decimals.{integer_forth}
 use Rattle.certificate_text.proofs.NamesWritten.{is_free, cut_one, cut_at, all_append, plain_free, integer_plain, name_free, names_forth}
 
 -- `C*NAME` is cut at its first star

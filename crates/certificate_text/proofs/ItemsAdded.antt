@@ -4,7 +4,7 @@ use Rattle.std.specs.List.{flat_map}
 use Rattle.std.proofs.lemmas.Bool.{cond-true}
 use Rattle.std.proofs.lemmas.List.{append-nil}
 use Rattle.linear.specs.Linear.{Form}
-use Rattle.texts.specs.Lines.{follows}
+use Rattle.lines.specs.Lines.{follows}
 use Rattle.certificate_text.specs.Certificate.{Name, Spot, Congruence, Multiple, Place, Bound, EntrySort, Step, Lemma, Entry, Certificate}
 use Rattle.certificate_text.specs.Forms.{then, when}
 use Rattle.certificate_text.specs.Lines.{Item, PlaceItem, SameItem, FactItem, CongruenceItem, MultipleItem, BoundItem, EntryItem, LemmaItem, MainItem, StepItem, EndItem}
@@ -12,7 +12,7 @@ use Rattle.certificate_text.specs.Items.{place_items, lemma_items, main_items, e
 use Rattle.certificate_text.specs.Drafts.{bound_is_behind, entry_is_behind, Nothing, InPlace, InEntry, InLemma, Ended, Draft, draft, certificate_with, begun, has_line, settle, place_fits, place_at, entry_at, add}
 use Rattle.certificate_text.specs.Reading.{add_fitting}
 use Rattle.certificate_text.specs.Rules.{all, rises, is_open_place, is_place, place_is_before, bound_is_before, entry_is_before, is_narrow_item, is_written}
-use Rattle.texts.proofs.Fits.{both}
+use Rattle.lines.proofs.Fronts.{both}
 use Rattle.certificate_text.proofs.Cuts.{then_back}
 use Rattle.certificate_text.proofs.FormsWritten.{rises_follow, moved}
 use Rattle.certificate_text.proofs.PartsRead.{same}

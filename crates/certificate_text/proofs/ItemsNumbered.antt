@@ -5,19 +5,19 @@ use Rattle.std.specs.Prelude.{ℤ, pos, negsuc, nat_le}
 use Rattle.std.specs.List.{flat_map}
 use Rattle.std.proofs.lemmas.List.{map-append}
 use Rattle.linear.specs.Linear.{Form}
-use Rattle.texts.specs.Lines.{is_empty, is_natural}
+use Rattle.lines.specs.Lines.{is_empty, is_natural}
 use Rattle.certificate_text.specs.Certificate.{Name, Place, Lemma, EntrySort, Show, Positive, Negative, Quotient, Entry, Certificate}
 use Rattle.certificate_text.specs.Text.{place_lines, entry_line, step_line, lemma_lines, main_lines, entry_lines, body_lines}
 use Rattle.certificate_text.specs.Forms.{form}
 use Rattle.certificate_text.specs.Lines.{Item, PlaceItem, SameItem, FactItem, CongruenceItem, MultipleItem, BoundItem, EntryItem, LemmaItem, MainItem, StepItem, EndItem}
 use Rattle.certificate_text.specs.Rules.{all, is_form, is_spot, is_congruence, is_multiple, is_open_place, is_place, is_bound, is_descent, is_sort, is_step, is_lemma, is_entry, is_narrow, is_narrow_item, is_written, is_any_certificate}
-use Rattle.texts.specs.Identifiers.{is_identifier}
-use Rattle.texts.specs.Lines.{is_integer}
+use Rattle.lines.specs.Identifiers.{is_identifier}
+use Rattle.lines.specs.Lines.{is_integer}
 use Rattle.certificate_text.specs.Drafts.{has_line}
 use Rattle.certificate_text.specs.Items.{place_items, lemma_items, main_items, entry_items, items_of, item_line, sort_forms, line_forms}
 use Rattle.certificate_text.specs.NumberedText.{number_form}
 use Rattle.certificate_text.specs.NumberedReading.{whole_number, number_in}
-use Rattle.texts.proofs.Fits.{both}
+use Rattle.lines.proofs.Fronts.{both}
 use Rattle.certificate_text.proofs.Cuts.{cond_back, none_left}
 use Rattle.certificate_text.proofs.FormsRead.{three}
 use Rattle.certificate_text.proofs.NamesWritten.{all_append}

@@ -4,14 +4,14 @@ use Rattle.std.specs.Prelude.{codes, bytes_eq}
 use Rattle.std.specs.Option.{option_map}
 use Rattle.std.proofs.lemmas.List.{append-nil}
 use Rattle.linear.specs.Linear.{Form}
-use Rattle.texts.specs.Lines.{is_empty, pieces, words, first, sole}
+use Rattle.lines.specs.Lines.{is_empty, pieces, words, first, sole}
 use Rattle.certificate_text.specs.Certificate.{Name}
 use Rattle.certificate_text.specs.Forms.{when, identifier_of, form, form_of}
 use Rattle.certificate_text.specs.Lines.{Item, PlaceItem, SameItem, FactItem, CongruenceItem, MultipleItem, BoundItem, EntryItem, LemmaItem, MainItem, StepItem, EndItem, spot_of, congruence_of, multiple_of, bound_of, entry_of, sum_of, given_of, divide_of, product_of, place_item, lemma_item, step_item, item_of}
 use Rattle.certificate_text.specs.Items.{item_line}
 use Rattle.certificate_text.specs.Rules.{is_form}
-use Rattle.texts.specs.Lines.{is_integer}
-use Rattle.texts.proofs.Fits.{both}
+use Rattle.lines.specs.Lines.{is_integer}
+use Rattle.lines.proofs.Fronts.{both}
 use Rattle.certificate_text.proofs.Cuts.{spaced, pieces_back, then_back, map_back, when_back, first_back, sole_back, none_left, by_word}
 use Rattle.certificate_text.proofs.FormsRead.{identifier_back}
 use Rattle.certificate_text.proofs.PartsRead.{is_constant, is_item, is_part, andt, whole_back, congruence_back, multiple_back, spot_back, bound_back, entry_back, sum_back, given_back, divide_back, product_back}

@@ -7,16 +7,16 @@ use Rattle.std.specs.Fmt.{decimal, signed_decimal}
 use Rattle.std.proofs.lemmas.Bool.{cond-true}
 use Rattle.std.proofs.lemmas.List.{append-nil}
 use Rattle.linear.specs.Linear.{Form}
-use Rattle.texts.specs.Lines.{is_empty, pieces, words, sole, natural_of, integer_of, follows}
+use Rattle.lines.specs.Lines.{is_empty, pieces, words, sole, natural_of, integer_of, follows}
 use Rattle.certificate_text.specs.Certificate.{Name, Anchor, KernelEntry, Barrier, Spot, Congruence, Multiple, Descent, Down, Halve, Double, Bound, EntrySort, Show, Positive, Negative, Quotient, Scaled, Step, Given, Sum, Divide, Product}
 use Rattle.certificate_text.specs.Text.{term_text, form_text, anchor_text, head_text, place_line, congruence_line, multiple_line, descent_text, bound_line, sort_text, entry_line, lemma_line, scaled_text, step_line}
 use Rattle.certificate_text.specs.Forms.{then, when, number, identifier_of, form, constant_of, form_of}
 use Rattle.certificate_text.specs.Lines.{Item, PlaceItem, SameItem, FactItem, CongruenceItem, MultipleItem, BoundItem, EntryItem, LemmaItem, MainItem, StepItem, EndItem, at_least, anchor_of, spot_of, congruence_of, multiple_of, descent_of, bound_of, sort_of, entry_of, scaled_of, line_is_before, sum_of, given_of, product_of, item_of}
 use Rattle.certificate_text.specs.Rules.{all, rises, is_form, is_anchor, is_head, is_spot, is_congruence, is_descent, is_bound, is_sort, is_scaled, is_step}
-use Rattle.texts.specs.Lines.{is_natural, is_integer}
-use Rattle.texts.proofs.Fits.{both}
+use Rattle.lines.specs.Lines.{is_natural, is_integer}
+use Rattle.lines.proofs.Fronts.{both}
 use Rattle.certificate_text.proofs.Cuts.{none_left}
-use Rattle.texts.proofs.Decimals.{natural_forth, integer_forth}
+use Rattle.lines.proofs.Decimals.{natural_forth, integer_forth}
 use Rattle.certificate_text.proofs.NamesWritten.{is_free, is_plain, cut_one, cut_at, all_append, plain_free, natural_plain, integer_plain, identifier_plain, identifier_forth}
 use Rattle.certificate_text.proofs.FormsWritten.{form_forth, rises_follow, moved}
 use Rattle.certificate_text.specs.Items.{item_line}

@@ -8,16 +8,16 @@ use Rattle.std.specs.Fmt.{decimal, signed_decimal}
 use Rattle.std.proofs.lemmas.Bool.{cond-true, cond-false, false≢true}
 use Rattle.std.proofs.lemmas.Bool.Decides.{nat_tests}
 use Rattle.std.proofs.lemmas.List.Splits.{slice_split-cons_no}
-use Rattle.texts.specs.Tokens.{is_letter, is_word_byte}
-use Rattle.texts.specs.Lines.{is_empty, pieces, first, natural_of}
+use Rattle.lines.specs.Bytes.{is_letter, is_word_byte}
+use Rattle.lines.specs.Lines.{is_empty, pieces, first, natural_of}
 use Rattle.certificate_text.specs.Certificate.{Dimension, First, Second, Third, Name, Variable, AtAnchor, Turns, Fresh, Argument, Length, Groups, Group, Local, Product}
 use Rattle.certificate_text.specs.Text.{dimension_text, name_text}
 use Rattle.certificate_text.specs.Forms.{then, number, begins, identifier_of, dimensional_of, name_of, second_of, factor_of, pair_of, triple_of, names_of}
-use Rattle.texts.specs.Identifiers.{all_word_bytes, is_identifier}
+use Rattle.lines.specs.Identifiers.{all_word_bytes, is_identifier}
 use Rattle.certificate_text.specs.Rules.{all, is_plain_name, is_factor, names_rise, is_pair, is_name}
-use Rattle.texts.specs.Lines.{is_natural, is_integer}
-use Rattle.texts.proofs.Fits.{both}
-use Rattle.texts.proofs.Decimals.{digits_of_decimal, below_of, natural_forth}
+use Rattle.lines.specs.Lines.{is_natural, is_integer}
+use Rattle.lines.proofs.Fronts.{both}
+use Rattle.lines.proofs.Decimals.{digits_of_decimal, below_of, natural_forth}
 
 -- no separator stands in it
 abbrev pub is_free : (separator : ℕ) → List ℕ → Bool

@@ -1,12 +1,12 @@
 -- What versions 1 and 2 have no words for is missing in a certificate where it is missing in each of its lines.
 use Rattle.std.proofs.Common.{◌≡◌, Bool, true, false, not, ◌&&◌, ◌||◌, List, [], ◌∷◌, ◌++◌, map, refl, ap, sym, ◌∙◌}
 use Rattle.std.specs.List.{flat_map}
-use Rattle.texts.specs.Lines.{is_empty}
+use Rattle.lines.specs.Lines.{is_empty}
 use Rattle.certificate_text.specs.Certificate.{Place, Step, Lemma, Entry, Certificate}
 use Rattle.certificate_text.specs.Lines.{Item, SameItem, FactItem, CongruenceItem, MultipleItem, BoundItem, StepItem}
 use Rattle.certificate_text.specs.Items.{place_items, lemma_items, main_items, entry_items, items_of}
 use Rattle.certificate_text.specs.Rules.{all, is_narrow_form, is_narrow_congruence, is_narrow_place, is_narrow_bound, is_narrow_sort, is_narrow_step, is_narrow_entry, is_narrow_item, has_narrow_lines, is_narrow}
-use Rattle.texts.proofs.Fits.{both}
+use Rattle.lines.proofs.Fronts.{both}
 
 -- whether a certificate that is wide, or not, may have a line
 abbrev pub fits_in : (is_wide : Bool) → Item → Bool

@@ -11,7 +11,7 @@ use Rattle.std.proofs.lemmas.List.{append-nil, length-append, map_push}
 use Rattle.std.proofs.lemmas.List.Splits.{join_with_byte-slice_split}
 use Rattle.std.proofs.lemmas.Slice.Eq.{bytes_eq-Decides}
 use Rattle.linear.specs.Linear.{Form}
-use Rattle.texts.specs.Lines.{is_empty, two, pieces, words, text_of_lines, integer_of}
+use Rattle.lines.specs.Lines.{is_empty, two, pieces, words, text_of_lines, integer_of}
 use Rattle.certificate_text.specs.Certificate.{Name, Certificate, BadLine, OtherVersion}
 use Rattle.certificate_text.specs.Forms.{number, form_of}
 use Rattle.certificate_text.specs.Lines.{Item, EndItem, item_of}
@@ -22,8 +22,8 @@ use Rattle.certificate_text.specs.Items.{items_of, item_line, line_forms}
 use Rattle.certificate_text.specs.FormTables.{FormTable, has_form, with_form}
 use Rattle.certificate_text.specs.NumberedText.{forms_in, forms_of, join_lines, numbered_line, table_line, lines_of_two, text_of_two, text_of_four}
 use Rattle.certificate_text.specs.NumberedReading.{filled, NumberedDraft, numbered_draft, add_filled, add_numbered, all_used, finish_numbered, go_to, read_numbered, table_words, add_form, by_table_words, read_table, table_start, is_join, read_behind, is_version, numbered_head, read_numbered_text, numbered_certificate, certificate_of_two, certificate_of_four}
-use Rattle.texts.proofs.Fits.{both}
-use Rattle.texts.proofs.Decimals.{integer_back}
+use Rattle.lines.proofs.Fronts.{both}
+use Rattle.lines.proofs.Decimals.{integer_back}
 use Rattle.certificate_text.proofs.Cuts.{spaced, pieces_back, then_back, when_back, cond_back, number_back, two_back, all_push, none_left}
 use Rattle.certificate_text.proofs.ItemsRead.{item_part, item_back}
 use Rattle.certificate_text.proofs.PartsRead.{andt, same}

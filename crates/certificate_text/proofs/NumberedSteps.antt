@@ -9,7 +9,7 @@ use Rattle.std.proofs.lemmas.List.{append-nil}
 use Rattle.std.proofs.lemmas.Option.{slice_get_within}
 use Rattle.std.proofs.Math.Nat.{max-le}
 use Rattle.linear.specs.Linear.{Form}
-use Rattle.texts.specs.Lines.{is_empty, words}
+use Rattle.lines.specs.Lines.{is_empty, words}
 use Rattle.certificate_text.specs.Certificate.{Name, Congruence, Multiple, Double, Bound, Place, Quotient, Step, Lemma, Entry, BadLine}
 use Rattle.certificate_text.specs.Text.{descent_text}
 use Rattle.certificate_text.specs.Forms.{form_of}

@@ -9,7 +9,7 @@ use Rattle.std.proofs.lemmas.Fmt.{decimal_digit}
 use Rattle.std.proofs.lemmas.List.{append-nil, length-append, length-map, map_push}
 use Rattle.std.proofs.lemmas.Slice.Eq.{bytes_eq-Decides}
 use Rattle.linear.specs.Linear.{Form}
-use Rattle.texts.specs.Lines.{is_empty, is_natural, integer_of, pieces, words, text_of_lines}
+use Rattle.lines.specs.Lines.{is_empty, is_natural, integer_of, pieces, words, text_of_lines}
 use Rattle.certificate_text.specs.Certificate.{Name, EntrySort, Show, Positive, Negative, Quotient, Given, Sum, Divide, Product, Certificate, BadLine}
 use Rattle.certificate_text.specs.Text.{form_text}
 use Rattle.certificate_text.specs.Forms.{then, when, number}
@@ -22,8 +22,8 @@ use Rattle.certificate_text.specs.FormTables.{FormTable, has_form, with_form, nu
 use Rattle.certificate_text.specs.NumberedText.{forms_in, forms_of, number_for, numbered, numbered_line, table_line, text_of_two, text_of_four}
 use Rattle.certificate_text.specs.NumberedReading.{allowed_form, form_by, forms_by, filled, numbered_draft, add_filled, add_numbered, all_used, finish_numbered, go_to, read_numbered, table_words, add_form, by_table_words, read_table, table_start, read_behind, numbered_head, read_numbered_text, numbered_certificate, certificate_of_two, certificate_of_four}
 use Rattle.certificate_text.specs.Reading.{version_of}
-use Rattle.texts.proofs.Fits.{both}
-use Rattle.texts.proofs.Decimals.{below_test, integer_forth}
+use Rattle.lines.proofs.Fronts.{both}
+use Rattle.lines.proofs.Decimals.{below_test, integer_forth}
 use Rattle.certificate_text.proofs.Cuts.{then_back, all_push}
 use Rattle.certificate_text.proofs.NamesWritten.{is_free, all_append}
 use Rattle.certificate_text.proofs.FormsWritten.{form_forth, moved}

@@ -4,13 +4,13 @@ use Rattle.std.specs.Prelude.{nat_le}
 use Rattle.std.specs.List.{flat_map}
 use Rattle.std.proofs.lemmas.Grind.{flat_map-append}
 use Rattle.std.proofs.lemmas.List.{append-nil, map_push}
-use Rattle.texts.specs.Lines.{is_empty, is_natural}
+use Rattle.lines.specs.Lines.{is_empty, is_natural}
 use Rattle.certificate_text.specs.Certificate.{Place, Step, Lemma, Entry, Certificate}
 use Rattle.certificate_text.specs.Lines.{Item, PlaceItem, SameItem, FactItem, CongruenceItem, MultipleItem, BoundItem, EntryItem, LemmaItem, MainItem, StepItem, EndItem}
 use Rattle.certificate_text.specs.Drafts.{Open, Nothing, InPlace, InEntry, InLemma, Ended, place_fits, entry_fits, lemma_at, with_step, with_lemma, lemma_with_step, add_to_place, add_to_entry, add_to_lemma, add_to}
 use Rattle.certificate_text.specs.Rules.{all, is_form, is_spot, is_congruence, is_multiple, is_open_place, is_sort, is_step, is_lemma, is_entry}
-use Rattle.texts.specs.Identifiers as identifiers
-use Rattle.texts.proofs.Fits.{both}
+use Rattle.lines.specs.Identifiers as identifiers
+use Rattle.lines.proofs.Fronts.{both}
 use Rattle.certificate_text.proofs.Cuts.{map_back, when_back, all_push, none_left}
 use Rattle.certificate_text.proofs.FormsRead.{three}
 use Rattle.certificate_text.specs.Items.{place_items, lemma_items, main_items, entry_items}

@@ -6,19 +6,19 @@ use Rattle.std.specs.Fmt.{decimal, signed_decimal}
 use Rattle.std.proofs.lemmas.List.{append-nil}
 use Rattle.std.proofs.lemmas.Grind.{flat_map-append}
 use Rattle.linear.specs.Linear.{Form}
-use Rattle.texts.specs.Lines.{is_empty, pieces, first, sole, two, natural_of, integer_of, follows}
+use Rattle.lines.specs.Lines.{is_empty, pieces, first, sole, two, natural_of, integer_of, follows}
 use Rattle.certificate_text.specs.Certificate.{Name, Anchor, KernelEntry, Barrier, Spot, Congruence, Multiple, Descent, Down, Halve, Double, Bound, EntrySort, Show, Positive, Negative, Quotient, Scaled, Step, Given, Sum, Divide, Product}
 use Rattle.certificate_text.specs.Text.{form_text, anchor_text, head_text, place_line, congruence_line, multiple_line, descent_text, bound_line, sort_text, scaled_text, step_line}
 use Rattle.certificate_text.specs.Forms.{number, form, constant_of, form_of}
 use Rattle.certificate_text.specs.Lines.{Item, PlaceItem, SameItem, FactItem, CongruenceItem, MultipleItem, BoundItem, EntryItem, LemmaItem, MainItem, StepItem, EndItem, at_least, anchor_of, head_of, spot_of, congruence_of, multiple_of, descent_of, bound_of, plain_sort, sort_of, entry_of, scaled_of, line_is_before, sum_of, given_of, divide_of, product_of}
 use Rattle.certificate_text.specs.Items.{item_line}
 use Rattle.certificate_text.specs.Rules.{all, rises, is_form, is_anchor, is_head, is_spot, is_congruence, is_multiple, is_descent, is_bound, is_sort, is_scaled, is_step}
-use Rattle.texts.specs.Lines.{is_natural, is_integer}
+use Rattle.lines.specs.Lines.{is_natural, is_integer}
 use Rattle.std.proofs.lemmas.Slice.Eq.{bytes_eq-Decides}
-use Rattle.texts.proofs.Decimals.{natural_back, integer_back}
+use Rattle.lines.proofs.Decimals.{natural_back, integer_back}
 use Rattle.certificate_text.proofs.Cuts.{parted, spaced, pieces_back, then_back, map_back, when_back, cond_back, number_back, first_back, sole_back, two_back, none_left, by_word, by_front, all_push, rises_push}
 use Rattle.certificate_text.proofs.FormsRead.{form_back, three}
-use Rattle.texts.specs.Identifiers as identifiers
+use Rattle.lines.specs.Identifiers as identifiers
 
 -- a form without terms
 abbrev pub is_constant : Form Name → Bool

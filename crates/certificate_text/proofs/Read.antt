@@ -11,15 +11,15 @@ use Rattle.std.proofs.lemmas.Grind.{flat_map-append}
 use Rattle.std.proofs.lemmas.List.{append-nil, map_push}
 use Rattle.std.proofs.lemmas.List.Splits.{join_with_byte-slice_split}
 use Rattle.std.proofs.lemmas.Slice.Eq.{bytes_eq-Decides}
-use Rattle.texts.specs.Lines.{is_empty, two, pieces, words, text_of_lines, integer_of}
+use Rattle.lines.specs.Lines.{is_empty, two, pieces, words, text_of_lines, integer_of}
 use Rattle.certificate_text.specs.Certificate.{Certificate, CertificateFault, BadLine, OtherVersion}
 use Rattle.certificate_text.specs.Text.{body_lines, text_of}
 use Rattle.certificate_text.specs.Forms.{number}
 use Rattle.certificate_text.specs.Drafts.{Open, Nothing, InPlace, InEntry, InLemma, Ended, Draft, begun, nothing_yet}
 use Rattle.certificate_text.specs.Reading.{Read, is_ended, finish, go_on, add_line, read_lines, head_of_version, version_of, head_fault, unless, read_text, certificate_limit, certificate_of}
 use Rattle.certificate_text.specs.Rules.{is_narrow, is_written, is_certificate, is_any_certificate}
-use Rattle.texts.proofs.Fits.{both}
-use Rattle.texts.proofs.Decimals.{integer_back}
+use Rattle.lines.proofs.Fronts.{both}
+use Rattle.lines.proofs.Decimals.{integer_back}
 use Rattle.certificate_text.proofs.Cuts.{spaced, then_back, cond_back, number_back, two_back, pieces_back, none_left}
 use Rattle.certificate_text.proofs.PartsRead.{andt}
 use Rattle.certificate_text.specs.Lines.{EndItem}

@@ -8,13 +8,13 @@ use Rattle.std.proofs.lemmas.Bool.Decides.{nat_tests}
 use Rattle.std.proofs.lemmas.List.{append-nil, length-append}
 use Rattle.std.proofs.lemmas.Slice.Eq.{bytes_eq-Decides}
 use Rattle.linear.specs.Linear.{Form}
-use Rattle.texts.specs.Lines.{pieces}
+use Rattle.lines.specs.Lines.{pieces}
 use Rattle.certificate_text.specs.Certificate.{Name}
 use Rattle.certificate_text.specs.Text.{form_text}
 use Rattle.certificate_text.specs.Forms.{form_of}
 use Rattle.certificate_text.specs.Rules.{all, is_form}
 use Rattle.certificate_text.specs.FormTables.{FormTable, is_same_form, has_form, with_form, number_of, form_at}
-use Rattle.texts.proofs.Fits.{both}
+use Rattle.lines.proofs.Fronts.{both}
 use Rattle.certificate_text.proofs.FormsWritten.{form_forth, moved}
 use Rattle.certificate_text.proofs.PartsRead.{same}
 

@@ -8,7 +8,7 @@ use Rattle.std.proofs.lemmas.Bool.Decides.{nat_tests}
 use Rattle.std.proofs.lemmas.Fmt.{decimal_digit}
 use Rattle.std.proofs.lemmas.List.{map_push}
 use Rattle.linear.specs.Linear.{Weighted, Form}
-use Rattle.texts.specs.Lines.{integer_of, is_empty, pieces, words, text_of_lines, is_natural, is_integer}
+use Rattle.lines.specs.Lines.{integer_of, is_empty, pieces, words, text_of_lines, is_natural, is_integer}
 use Rattle.certificate_text.specs.Certificate.{Name, Anchor, KernelEntry, Barrier, Descent, Down, Halve, Double, EntrySort, Show, Positive, Negative, Quotient, Scaled, Given, Sum, Divide, Product, Certificate}
 use Rattle.certificate_text.specs.Text.{name_text, term_text, form_text, anchor_text, head_text, descent_text, sort_text, scaled_text, body_lines, text_of}
 use Rattle.certificate_text.specs.Forms.{then, number}
@@ -16,8 +16,8 @@ use Rattle.certificate_text.specs.Lines.{Item, PlaceItem, SameItem, FactItem, Co
 use Rattle.certificate_text.specs.Drafts.{Ended, Draft, draft, begun, nothing_yet, add}
 use Rattle.certificate_text.specs.Reading.{add_fitting, add_line, finish, go_on, read_lines, unless, head_of_version, head_fault, read_text, certificate_limit, certificate_of}
 use Rattle.certificate_text.specs.Rules.{all, is_name, is_term, is_form, is_anchor, is_head, is_descent, is_sort, is_scaled, has_narrow_lines, is_narrow, is_narrow_item, is_written, is_certificate, is_any_certificate}
-use Rattle.texts.proofs.Fits.{both}
-use Rattle.texts.proofs.Decimals.{integer_forth}
+use Rattle.lines.proofs.Fronts.{both}
+use Rattle.lines.proofs.Decimals.{integer_forth}
 use Rattle.certificate_text.proofs.Cuts.{then_back, all_push}
 use Rattle.certificate_text.proofs.NamesWritten.{is_free, cut_at, all_append, plain_free, natural_plain, integer_plain, identifier_plain, name_free}
 use Rattle.certificate_text.specs.Items.{items_of, item_line}

@@ -5,8 +5,8 @@ use Rattle.std.specs.Ordering.{nat_cmp, is_lt, int_eq}
 use Rattle.std.specs.List.{starts_with}
 use Rattle.std.specs.Cmp.Lexicographic.{slice_cmp}
 use Rattle.linear.specs.Linear.{Weighted, Form}
-use Rattle.texts.specs.Identifiers.{is_identifier}
-use Rattle.texts.specs.Lines.{NumberFault, is_empty, pieces, first, sole, follows, natural_of, integer_of}
+use Rattle.lines.specs.Identifiers.{is_identifier}
+use Rattle.lines.specs.Lines.{NumberFault, is_empty, pieces, first, sole, follows, natural_of, integer_of}
 use Rattle.certificate_text.specs.Certificate.{Dimension, First, Second, Third, Name, Variable, AtAnchor, Turns, Fresh, Argument, Length, Groups, Group, Local, Product}
 use Rattle.certificate_text.specs.Text.{name_text}
 

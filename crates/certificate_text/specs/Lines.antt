@@ -3,7 +3,7 @@ use Rattle.std.specs.Prelude.{ℕ, List, [], ◌∷◌, ◌++◌, drop, Bool, co
 use Rattle.std.specs.Option.{option_map}
 use Rattle.std.specs.Int.Signed.{lt_z}
 use Rattle.linear.specs.Linear.{Form}
-use Rattle.texts.specs.Lines.{NumberFault, pieces, is_empty, follows, sole, two, first, natural_of, integer_of}
+use Rattle.lines.specs.Lines.{NumberFault, pieces, is_empty, follows, sole, two, first, natural_of, integer_of}
 use Rattle.certificate_text.specs.Certificate.{Name, Anchor, KernelEntry, Barrier, Spot, Congruence, Multiple, Descent, Down, Halve, Double, Bound, EntrySort, Show, Positive, Negative, Quotient, Scaled, Step, Given, Sum, Divide, Product}
 use Rattle.certificate_text.specs.Forms.{then, when, number, begins, identifier_of, constant_of, form_of}
 

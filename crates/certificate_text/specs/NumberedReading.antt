@@ -2,7 +2,7 @@
 use Rattle.std.specs.Prelude.{ℕ, suc, ◌+◌, max, ℤ, pos, negsuc, List, [], ◌∷◌, ◌++◌, length, Bool, true, false, cond, not, nat_eq, nat_le, nat_lt, ◌&&◌, ◌||◌, Option, None, Some, Ok, Err, bytes_eq, codes}
 use Rattle.std.specs.Ordering.{int_eq}
 use Rattle.linear.specs.Linear.{Form}
-use Rattle.texts.specs.Lines.{is_empty, line_feed, pieces, words}
+use Rattle.lines.specs.Lines.{is_empty, line_feed, pieces, words}
 use Rattle.certificate_text.specs.Certificate.{Name, CertificateFault, BadLine, OtherVersion}
 use Rattle.certificate_text.specs.Forms.{then, when, form_of}
 use Rattle.certificate_text.specs.Lines.{Item, item_of}

@@ -2,7 +2,7 @@
 use Rattle.std.specs.Prelude.{ℕ, pos, Bool, true, false, List, [], ◌∷◌, ◌++◌, map, fold, codes}
 use Rattle.std.specs.List.{flat_map}
 use Rattle.linear.specs.Linear.{Form}
-use Rattle.texts.specs.Lines.{text_of_lines}
+use Rattle.lines.specs.Lines.{text_of_lines}
 use Rattle.certificate_text.specs.Certificate.{Name, Certificate}
 use Rattle.certificate_text.specs.Text.{form_text}
 use Rattle.certificate_text.specs.Forms.{form}

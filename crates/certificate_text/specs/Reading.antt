@@ -1,7 +1,7 @@
 -- Reading a certificate, line by line, to its end or its first fault.
 use Rattle.std.specs.Prelude.{ℕ, suc, ℤ, pos, List, [], ◌∷◌, length, Bool, true, false, cond, nat_lt, ◌&&◌, ◌||◌, Option, None, Some, Result, Ok, Err, bytes_eq, codes}
 use Rattle.std.specs.Ordering.{int_eq}
-use Rattle.texts.specs.Lines.{is_empty, two, line_feed, pieces, words, integer_of}
+use Rattle.lines.specs.Lines.{is_empty, two, line_feed, pieces, words, integer_of}
 use Rattle.certificate_text.specs.Certificate.{Certificate, CertificateFault, BadLine, OtherVersion}
 use Rattle.certificate_text.specs.Lines.{Item, item_of}
 use Rattle.certificate_text.specs.Forms.{then, number}

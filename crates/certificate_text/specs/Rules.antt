@@ -2,11 +2,11 @@
 use Rattle.std.specs.Prelude.{ℕ, pos, List, [], ◌∷◌, Bool, true, false, not, nat_le, nat_lt, ◌&&◌, ◌||◌, Option, None, Some}
 use Rattle.std.specs.Ordering.{int_eq}
 use Rattle.linear.specs.Linear.{Weighted, Form}
-use Rattle.texts.specs.Lines.{is_empty, is_natural, is_integer}
+use Rattle.lines.specs.Lines.{is_empty, is_natural, is_integer}
 use Rattle.certificate_text.specs.Certificate.{Name, Variable, AtAnchor, Turns, Fresh, Argument, Length, Groups, Group, Local, Second, Product, Anchor, KernelEntry, Barrier, Spot, Congruence, Multiple, Place, Descent, Down, Halve, Double, Bound, EntrySort, Show, Positive, Negative, Quotient, Scaled, Step, Given, Sum, Divide, Lemma, Entry, Certificate}
 use Rattle.certificate_text.specs.Text.{name_text}
 use Rattle.certificate_text.specs.Forms.{in_order, term_is_before}
-use Rattle.texts.specs.Identifiers.{is_identifier}
+use Rattle.lines.specs.Identifiers.{is_identifier}
 use Rattle.certificate_text.specs.Lines.{Item, PlaceItem, SameItem, FactItem, CongruenceItem, MultipleItem, BoundItem, EntryItem, LemmaItem, MainItem, StepItem, EndItem, line_is_before}
 use Rattle.certificate_text.specs.Drafts.{spot_is_before, has_line}
 

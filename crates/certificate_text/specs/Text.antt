@@ -3,7 +3,7 @@ use Rattle.std.specs.Prelude.{ℕ, List, [], ◌∷◌, ◌++◌, map, Option, N
 use Rattle.std.specs.List.{flat_map}
 use Rattle.std.specs.Fmt.{decimal, signed_decimal}
 use Rattle.linear.specs.Linear.{Weighted, Form}
-use Rattle.texts.specs.Lines.{text_of_lines}
+use Rattle.lines.specs.Lines.{text_of_lines}
 use Rattle.certificate_text.specs.Certificate.{Dimension, First, Second, Third, Name, Variable, AtAnchor, Turns, Fresh, Argument, Length, Groups, Group, Local, Product, Anchor, KernelEntry, Barrier, Spot, Congruence, Multiple, Place, Descent, Down, Halve, Double, Bound, EntrySort, Show, Positive, Negative, Quotient, Scaled, Step, Given, Sum, Divide, Lemma, Entry, Certificate}
 
 abbrev pub dimension_text : Dimension → List ℕ

@@ -5,8 +5,9 @@ use Rattle.std.specs.Option.{option_map}
 use Rattle.std.specs.Fmt.{decimal}
 use Rattle.std.specs.String.{string_bytes}
 use Rattle.std.specs.declared.alloc.Global.{Global}
-use Rattle.texts.specs.Scope.{Devices, Bits32, Any}
-use Rattle.types.specs.Names.{devices as devices_seen}
+use Rattle.types.specs.Scope.{Devices, Bits32, Any}
+use Rattle.kernel_reading.specs.Kernels.{Language, Plain, OpenCl, Reading}
+use Rattle.kernel_reading.specs.Sources.{reading as reading_seen}
 use Rattle.command_line.specs.declared.Names.{Names}
 use Rattle.command_line.specs.declared.Search.{Search}
 use Rattle.command_line.specs.declared.Subject.{Subject}
@@ -19,9 +20,15 @@ texts ws = map string_bytes ws
 abbrev pub is_option : List ℕ → Bool
 is_option w = bytes_eq w (codes "--workers") || (bytes_eq w (codes "--out") || bytes_eq w (codes "--devices"))
 
--- an option that has no value
+-- options that have no value
+abbrev pub is_wide : List ℕ → Bool
+is_wide w = bytes_eq w (codes "--wide")
+
+abbrev pub is_opencl : List ℕ → Bool
+is_opencl w = bytes_eq w (codes "--opencl")
+
 abbrev pub is_flag : List ℕ → Bool
-is_flag w = bytes_eq w (codes "--wide")
+is_flag w = is_wide w || is_opencl w
 
 -- the word behind another option is its value
 abbrev pub operands : (is_value : Bool) → List (List ℕ) → List (List ℕ)
@@ -32,7 +39,12 @@ operands false (w ∷ ws) = cond (is_option w) (operands true ws) (cond (is_flag
 -- one of the words is `--wide`
 abbrev pub has_wide : List (List ℕ) → Bool
 has_wide [] = false
-has_wide (w ∷ ws) = is_flag w || has_wide ws
+has_wide (w ∷ ws) = is_wide w || has_wide ws
+
+-- one of them is `--opencl`
+abbrev pub has_opencl : List (List ℕ) → Bool
+has_opencl [] = false
+has_opencl (w ∷ ws) = is_opencl w || has_opencl ws
 
 -- the word behind the first `--out` is the name of a file to write
 abbrev pub saved_as : (is_name : Bool) → List (List ℕ) → Option (List ℕ)
@@ -70,37 +82,45 @@ IsDevicesOf (Some w) Any = w ≡ codes "any"
 abbrev pub AsksDevices : List (List ℕ) → Devices → Type 0
 AsksDevices ws d = IsDevicesOf (devices_as false ws) d
 
+abbrev pub language_by : (is_opencl : Bool) → Language
+language_by true = OpenCl
+language_by false = Plain
+
+-- the way in which the kernel is read: `--opencl` asks for OpenCL C
+abbrev pub AsksReading : List (List ℕ) → Reading → Type 0
+AsksReading ws r = AsksDevices ws r.devices × (r.language ≡ language_by (has_opencl ws))
+
 -- this is the n-th of them, from 0
 abbrev pub HasWord : List (List ℕ) → ℕ → List ℕ → Type 0
 HasWord ws n w = slice_get (operands false ws) n ≡ Some w
 
--- the files of the kernel, its conditions and its certificate come first; `--wide` asks for the wide check, and `--devices` says for which
--- devices the kernel is read
+-- the files of the kernel, its conditions and its certificate come first; `--wide` asks for the wide check; `--opencl` and `--devices`
+-- say how the kernel is read
 pub record HasNames (ws : List (List ℕ)) (names : Names) : Type 0 where
   pub kernel : HasWord ws 1 names.kernel.now
   pub conditions : HasWord ws 2 names.conditions.now
   pub certificate : HasWord ws 3 names.certificate.now
   pub wide : names.is_wide ≡ has_wide ws
-  pub devices : AsksDevices ws (devices_seen names.devices)
+  pub reading : AsksReading ws (reading_seen names.reading)
 
 -- the kernel and the conditions come first, `--out` names the file to write, `--workers` the number of workers, `--wide` asks for the wide
--- search, and `--devices` says for which devices the kernel is read
+-- search; `--opencl` and `--devices` say how the kernel is read
 pub record HasSearch (ws : List (List ℕ)) (search : Search) : Type 0 where
   pub kernel : HasWord ws 1 search.kernel.now
   pub conditions : HasWord ws 2 search.conditions.now
   pub out : option_map (λ w. w.now) search.out ≡ saved_as false ws
   pub workers : AsksWorkers ws search.workers
   pub wide : search.is_wide ≡ has_wide ws
-  pub devices : AsksDevices ws (devices_seen search.devices)
+  pub reading : AsksReading ws (reading_seen search.reading)
 
--- the kernel and the conditions come first, then the certificate, where there is one; `--wide` asks for the wide check, and `--devices`
--- says for which devices the kernel is read
+-- the kernel and the conditions come first, then the certificate, where there is one; `--wide` asks for the wide check; `--opencl` and
+-- `--devices` say how the kernel is read
 pub record HasSubject (ws : List (List ℕ)) (subject : Subject) : Type 0 where
   pub kernel : HasWord ws 1 subject.kernel.now
   pub conditions : HasWord ws 2 subject.conditions.now
   pub certificate : option_map (λ w. w.now) subject.certificate ≡ slice_get (operands false ws) 3
   pub wide : subject.is_wide ≡ has_wide ws
-  pub devices : AsksDevices ws (devices_seen subject.devices)
+  pub reading : AsksReading ws (reading_seen subject.reading)
 
 abbrev pub Asks : List (List ℕ) → Line → Type 0
 Asks ws lines.First = ws ≡ []

@@ -1,4 +1,4 @@
-//! Section: Program. Promises which words name which files and devices; stands on `types` and `clap`.
+//! Section: Program. Promises which words name which files and devices; stands on `kernel_reading` and `clap`.
 //!
 //! The command line. `clap` says whether the words are one; the files are the words that are no option, in their order.
 #![tactic(auto)]
@@ -7,11 +7,14 @@ ghost use Rattle.std.specs.Prelude.{◌≡◌, ℕ, List, IfOk, IfSome, false, c
 ghost use Rattle.std.specs.Fmt.{decimal};
 ghost use Rattle.std.specs.Option.{option_map};
 ghost use Rattle.types.specs.Names.{devices as devices_seen};
-ghost use Rattle.command_line.specs.Words.{texts, operands, saved_as, workers_as, devices_as, has_wide, IsNumberOf, AsksWorkers, IsDevicesOf, AsksDevices};
+ghost use Rattle.kernel_reading.specs.Sources.{language as language_seen, reading as reading_seen};
+ghost use Rattle.command_line.specs.Words.{texts, operands, saved_as, workers_as, devices_as, has_wide, has_opencl, IsNumberOf, AsksWorkers};
+ghost use Rattle.command_line.specs.Words.{IsDevicesOf, AsksDevices, language_by, AsksReading};
 ghost use Rattle.command_line.specs.Words.{HasWord, HasNames, HasSubject, Asks};
 
 use clap::error::{Error, ErrorKind};
 use clap::{Arg, ArgAction, Command};
+use kernel_reading::{Language, Reading};
 use std::alloc::{AllocError, Global};
 use types::devices::Devices;
 
@@ -39,19 +42,18 @@ pub enum Line<'a> {
     Usage,
 }
 
-/// The files of a kernel, its conditions and its certificate, whether the wide check is asked for, and the devices that the kernel is read
-/// for.
+/// The files of a kernel, its conditions and its certificate, whether the wide check is asked for, and how the kernel is read.
 #[derive(Clone, Copy)]
 pub struct Names<'a> {
     pub kernel: &'a str,
     pub conditions: &'a str,
     pub certificate: &'a str,
     pub is_wide: bool,
-    pub devices: Devices,
+    pub reading: Reading,
 }
 
 /// The files that `prove` is asked of, a kernel's and its conditions', the file to write, where one is named, how many workers, whether
-/// the wide search is asked for, and the devices that the kernel is read for.
+/// the wide search is asked for, and how the kernel is read.
 #[derive(Clone, Copy)]
 pub struct Search<'a> {
     pub kernel: &'a str,
@@ -59,18 +61,18 @@ pub struct Search<'a> {
     pub out: Option<&'a str>,
     pub workers: u32,
     pub is_wide: bool,
-    pub devices: Devices,
+    pub reading: Reading,
 }
 
 /// The files that `explain` is asked of: a kernel's, its conditions', and a certificate's, where one is named; whether it is of the wide
-/// check, and the devices that the kernel is read for.
+/// check, and how the kernel is read.
 #[derive(Clone, Copy)]
 pub struct Subject<'a> {
     pub kernel: &'a str,
     pub conditions: &'a str,
     pub certificate: Option<&'a str>,
     pub is_wide: bool,
-    pub devices: Devices,
+    pub reading: Reading,
 }
 
 /// A decimal of at most 4294967295, with no sign and no zero before it.
@@ -94,8 +96,8 @@ struct Form<'a> {
     flags: &'a [&'a str],
 }
 
-/// The option of a command that looks at a certificate or for one.
-const FLAGS: &[&str] = &["wide"];
+/// The options without a value of a command that looks at a certificate or for one.
+const FLAGS: &[&str] = &["wide", "opencl"];
 
 /// The form of a command.
 fn form_of(command: Option<&str>) -> Option<Form<'static>> {
@@ -191,7 +193,7 @@ fn operand(words: &[String], n: u32) -> Option<&str>
             || word.as_str() == "--devices"
         {
             is_value = true;
-        } else if word.as_str() != "--wide" {
+        } else if word.as_str() != "--wide" && word.as_str() != "--opencl" {
             if left == 0 {
                 return Some(word.as_str());
             }
@@ -207,6 +209,18 @@ fn is_wide(words: &[String]) -> bool
 {
     for word in words {
         if word.as_str() == "--wide" {
+            return true;
+        }
+    }
+    false
+}
+
+/// Whether one of the words is `--opencl`.
+fn is_opencl(words: &[String]) -> bool
+    ensures { result ≡ has_opencl (texts words.now) }
+{
+    for word in words {
+        if word.as_str() == "--opencl" {
             return true;
         }
     }
@@ -260,6 +274,27 @@ fn devices_in(words: &[String]) -> Option<Devices>
     devices_of(devices_word(words))
 }
 
+/// The language that words ask for.
+fn language_in(words: &[String]) -> Language
+    ensures { language_seen result ≡ language_by (has_opencl (texts words.now)) }
+{
+    if is_opencl(words) {
+        Language::OpenCl
+    } else {
+        Language::Plain
+    }
+}
+
+/// The way in which the words have the kernel read; none where they say no such devices.
+fn reading_in(words: &[String]) -> Option<Reading>
+    ensures { IfSome result (λ r. AsksReading (texts words.now) (reading_seen r)) }
+{
+    Some(Reading {
+        language: language_in(words),
+        devices: devices_in(words)?,
+    })
+}
+
 /// The files that words name, behind the command, and the devices; none where there are too few files, or the devices are none.
 fn names_of<'a>(words: &'a [String]) -> Option<Names<'a>>
     ensures { IfSome result (λ names. HasNames (texts words.now) names) }
@@ -269,7 +304,7 @@ fn names_of<'a>(words: &'a [String]) -> Option<Names<'a>>
         conditions: operand(words, 2)?,
         certificate: operand(words, 3)?,
         is_wide: is_wide(words),
-        devices: devices_in(words)?,
+        reading: reading_in(words)?,
     })
 }
 
@@ -356,10 +391,10 @@ fn prove_of<'a>(words: &'a [String], workers: u32) -> Line<'a>
     requires workers { AsksWorkers (texts words.now) workers }
     ensures { Asks (texts words.now) result }
 {
-    let (Some(kernel), Some(conditions), Some(devices)) = (
+    let (Some(kernel), Some(conditions), Some(reading)) = (
         operand(words, 1),
         operand(words, 2),
-        devices_in(words),
+        reading_in(words),
     ) else {
         return Line::Usage;
     };
@@ -369,7 +404,7 @@ fn prove_of<'a>(words: &'a [String], workers: u32) -> Line<'a>
         out: out_of(words),
         workers,
         is_wide: is_wide(words),
-        devices,
+        reading,
     })
 }
 
@@ -382,7 +417,7 @@ fn subject_of<'a>(words: &'a [String]) -> Option<Subject<'a>>
         conditions: operand(words, 2)?,
         certificate: operand(words, 3),
         is_wide: is_wide(words),
-        devices: devices_in(words)?,
+        reading: reading_in(words)?,
     })
 }
 

@@ -10,7 +10,7 @@ pub const LARGE: u64 = 1 << 31;
 
 /// At first facts with such a constant, mostly ends of the ranges of arguments and counts, are not multiplied either: few derivations want
 /// them, and their coefficients, multiplied with one another, soon leave `i64` too.
-pub const MIDDLE: u64 = 1 << 11;
+pub const MIDDLE: u64 = 1 << 6;
 
 /// Facts are left out at first that may be multiplied later.
 pub fn leave_some(facts: &[Form]) -> bool {

@@ -21,7 +21,7 @@ use findings::{Finding, FindingKind, Grade, Sighting, assemble, look};
 use launch::launches::Launch;
 use machine::world::{Applied, Event, World};
 use std::alloc::{AllocError, Global};
-use types::typed::Typed;
+use typed_kernels::Typed;
 use unreckoned::decides_nothing;
 use work_item::identity::{group_size, product_of};
 

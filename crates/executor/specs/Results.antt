@@ -4,7 +4,7 @@ use Rattle.semantics.specs.Launch as launches
 use Rattle.launch.specs.Unmet.{unmet}
 use Rattle.launch.specs.declared.conditions.Conditions.{Conditions}
 use Rattle.launch.specs.declared.launches.Buffers.{Buffers}
-use Rattle.work_item.specs.Reckoned.{is_reckoned}
+use Rattle.semantics.specs.Machines.{is_reckoned}
 use Rattle.executor.specs.declared.error.RunError.{RunError}
 use Rattle.executor.specs.declared.error.RunError.TheVariants as errors
 

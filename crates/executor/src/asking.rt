@@ -3,7 +3,7 @@
 ghost use Rattle.std.specs.Prelude.{◌≡◌, true, false, IfErr, OnOk};
 ghost use Rattle.core_code.specs.View.{kernel as core_seen};
 ghost use Rattle.cert_check.specs.View.{typed_of};
-ghost use Rattle.work_item.specs.Reckoned.{is_reckoned};
+ghost use Rattle.semantics.specs.Machines.{is_reckoned};
 ghost use Rattle.executor.specs.declared.error.RunError.TheVariants.{Unreckoned};
 
 use crate::error::RunError;

@@ -80,7 +80,7 @@ impl<'a> Writing<'a> {
 
     /// Writes a line of the text, with the lines that stand in front of it or in its place.
     fn push(&mut self, line: &[u8]) -> Result<(), AllocError> {
-        if line.starts_with(b"conditions ") && self.is_of_two {
+        if line.starts_with(b"conditions 1") && self.is_of_two {
             return push_line(&mut self.out, b"conditions 2");
         }
         if line.starts_with(b"values ") {

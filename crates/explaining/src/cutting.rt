@@ -5,11 +5,11 @@ use crate::paths::{ALLOWED, count_paths};
 use crate::source::behind;
 use core_code::tree::Site;
 use kernel_names::site_at;
+use kernel_reading::{Source, read_source};
 use launch_text::read_conditions_as;
 use places::{Point, points_of};
-use reading::{Source, read_source};
 use std::alloc::{AllocError, Global};
-use types::typed::Typed;
+use typed_kernels::Typed;
 
 /// A loop that never turns.
 const LOOP: &[u8] = b"while (0 > 1) { } ";
@@ -114,7 +114,8 @@ pub fn part_paths(
     let mut text = Vec::from_slice(alloc, source.bytes)?;
     for _cut in 0..MOST {
         let now = Source {
-            devices: source.devices,
+            reading: source.reading,
+            conditions: source.conditions,
             bytes: text.as_slice(),
         };
         let typed = match read_source(alloc, now) {

@@ -14,11 +14,11 @@ use crate::steps::push_steps;
 use crate::told::push_findings;
 use core_code::tree::Site;
 use findings::Finding;
+use kernel_reading::Source;
 use launch_text::read_conditions_as;
-use reading::Source;
 use shown_kernels::kernel::read_proper_kernel;
 use std::alloc::{AllocError, Global};
-use types::typed::Typed;
+use typed_kernels::Typed;
 
 /// The number of the refusal where there are too many paths from one place.
 const MANY_PATHS: u8 = 53;

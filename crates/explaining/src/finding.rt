@@ -12,15 +12,15 @@ use crate::scene::push_scene;
 use crate::source::{push_label, push_site};
 use crate::titles::{confirmed, label, meant, possible};
 use findings::{Finding, Grade, Spot};
+use kernel_reading::Source;
 use launch::conditions::Conditions;
 use launch::probe::probe;
 use launch_text::laws::a_least_launch_fits;
 use launch_text::read_conditions_as;
 use machine::world::Event;
-use reading::Source;
 use shown_kernels::kernel::read_proper_kernel;
 use std::alloc::{AllocError, Global};
-use types::typed::Typed;
+use typed_kernels::Typed;
 
 /// The text of a kernel, the devices that it is read for, and the text of its conditions.
 #[derive(Clone, Copy)]

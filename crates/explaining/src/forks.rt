@@ -6,7 +6,7 @@ use crate::vague::Slots;
 use core_code::tree::{Core, Relation, Site, Term};
 use kernel_names::site_at;
 use std::alloc::{AllocError, Global};
-use types::typed::Typed;
+use typed_kernels::Typed;
 use words::Kind;
 
 /// So many ways that come together are worth being parted from those behind.

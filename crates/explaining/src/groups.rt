@@ -7,7 +7,7 @@ use crate::source::{push_label, push_site};
 use crate::titles::{action, confirmed, meant};
 use core_code::tree::Site;
 use findings::{Finding, FindingKind};
-use reading::Source;
+use kernel_reading::Source;
 use std::alloc::{AllocError, Global};
 
 /// How many positions of a cause are told.

@@ -11,7 +11,7 @@ use findings::{Finding, FindingKind, Spot};
 use kernel_names::site_at;
 use launch::conditions::Conditions;
 use std::alloc::{AllocError, Global};
-use types::typed::Typed;
+use typed_kernels::Typed;
 use words::Fault;
 
 /// The most hints that are told of a cause.

@@ -56,6 +56,18 @@ const MEANINGS: &[(u8, &str)] = &[
         "Something of the kernel is too many or too large: the limits are in docs/LANGUAGE.md.",
     ),
     (
+        13,
+        "A line of the preprocessor stands there: write out what it stands for (gcc -E -P, or clang -E -P), or leave it out.",
+    ),
+    (
+        15,
+        "Something of OpenCL C stands there that is left out: docs/LANGUAGE.md has what is read. Write it out by what is.",
+    ),
+    (
+        19,
+        "What was written out of the kernel is no sound core. That is a fault of kverify, and nothing is said of the kernel:          please report it with the kernel.",
+    ),
+    (
         20,
         "A name is used that nothing visible declares: declare it before.",
     ),
@@ -94,6 +106,10 @@ const MEANINGS: &[(u8, &str)] = &[
         "A break or a continue stands outside of any loop: drop it, or write return; to end the work-item there.",
     ),
     (
+        29,
+        "A variable is read there that may not be set on each way to it: give it a value where it is declared.",
+    ),
+    (
         30,
         "Something else is due in that line of the conditions: compare it with docs/FORMATS.md. Conditions of version 2 \
          are read with --wide.",
@@ -113,6 +129,10 @@ const MEANINGS: &[(u8, &str)] = &[
     (
         34,
         "A number passes its limit, or the text is too long: the limits are in docs/FORMATS.md.",
+    ),
+    (
+        35,
+        "The file has no kernel with a body, or several of them: leave one kernel in the file. Or its work-group has no size: write          __attribute__((reqd_work_group_size(X, Y, Z))) in front of it.",
     ),
     (
         40,

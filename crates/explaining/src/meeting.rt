@@ -2,10 +2,10 @@
 
 use crate::said::sum_of;
 use crate::sums::{Name, Sum};
+use kernel_reading::{Source, read_source};
 use launch::conditions::{Conditions, CountRange};
 use launch_text::error::LaunchTextError;
 use launch_text::read_conditions_as;
-use reading::{Source, read_source};
 use std::alloc::{AllocError, Global};
 
 /// Which values a launch has: the least ones, the greatest ones, or the greatest ones of what is to be large alone.

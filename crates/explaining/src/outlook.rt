@@ -7,10 +7,10 @@ use crate::proposals::{Proposed, lines_for};
 use crate::source::push_label;
 use crate::titles::possible;
 use findings::{Finding, FindingKind, Spot};
+use kernel_reading::{Source, read_source};
 use launch_text::read_conditions_as;
-use reading::{Source, read_source};
 use std::alloc::{AllocError, Global};
-use types::typed::Typed;
+use typed_kernels::Typed;
 
 /// How many findings are told by their places alone.
 const MOST: usize = 12;

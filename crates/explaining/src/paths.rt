@@ -10,7 +10,7 @@ use core_code::tree::{Site, Statement};
 use kernel_names::site_at;
 use places::{Point, points_of};
 use std::alloc::{AllocError, Global};
-use types::typed::Typed;
+use typed_kernels::Typed;
 
 /// How many tests are told.
 const MOST: usize = 10;

@@ -18,7 +18,7 @@ use findings::{Finding, FindingKind, Spot};
 use launch::launches::Launch;
 use machine::world::{Event, World};
 use std::alloc::{AllocError, Global};
-use types::typed::Typed;
+use typed_kernels::Typed;
 use words::{Fault, Word};
 use work_item::ask::{Cell, Owner};
 

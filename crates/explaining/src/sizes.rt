@@ -9,7 +9,7 @@ use crate::paragraph::push_paragraph;
 use crate::parts::{statements_of, terms_of};
 use crate::source::push_site;
 use core_code::tree::{Core, Site, Term};
-use reading::{KernelError, Source, read_source};
+use kernel_reading::{KernelError, Reading, Source, read_source};
 use std::alloc::{AllocError, Global};
 use types::devices::Devices;
 use words::Kind;
@@ -86,10 +86,14 @@ fn fault_of(error: &KernelError) -> Option<Site> {
 }
 
 /// The first place where a kernel's text computes with a size, or is no kernel for any devices; none where there is none.
-fn first_place(alloc: Global, kernel: &[u8]) -> Result<Option<Site>, AllocError> {
+fn first_place(alloc: Global, kernel: Source<'_>) -> Result<Option<Site>, AllocError> {
     let source = Source {
-        devices: Devices::Any,
-        bytes: kernel,
+        reading: Reading {
+            language: kernel.reading.language,
+            devices: Devices::Any,
+        },
+        conditions: kernel.conditions,
+        bytes: kernel.bytes,
     };
     match read_source(alloc, source) {
         Ok(typed) => first_use(alloc, typed.core()),
@@ -99,7 +103,7 @@ fn first_place(alloc: Global, kernel: &[u8]) -> Result<Option<Site>, AllocError>
 
 /// Whether a kernel computes with ids or sizes that are not cast: by an operator, or with a signed number beside one; and not only by an
 /// index, or a comparison or a conversion of numbers that are not negative.
-pub fn computes_with_sizes(alloc: Global, kernel: &[u8]) -> Result<bool, AllocError> {
+pub fn computes_with_sizes(alloc: Global, kernel: Source<'_>) -> Result<bool, AllocError> {
     let place = first_place(alloc, kernel)?;
     Ok(place.is_some())
 }
@@ -130,7 +134,7 @@ fn told_sizes(
 /// by which it is refused, or that it is accepted.
 pub fn explain_sizes(
     alloc: Global,
-    kernel: &[u8],
+    kernel: Source<'_>,
     refusal: Option<u8>,
     out: &mut String,
 ) -> Result<(), AllocError>
@@ -139,6 +143,6 @@ pub fn explain_sizes(
     let Some(site) = first_place(alloc, kernel)? else {
         return out.push_str("");
     };
-    let text = told_sizes(alloc, kernel, site, refusal)?;
+    let text = told_sizes(alloc, kernel.bytes, site, refusal)?;
     out.push_str(&text)
 }

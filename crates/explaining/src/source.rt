@@ -85,7 +85,8 @@ fn push_caret(out: &mut String, line: u32, offset: usize, label: &str) -> Result
     out.push_str("\n")
 }
 
-/// The line of a site and, below it, a caret with what it says; the line is left out where it stands there already.
+/// The line of a site and, below it, a caret with what it says; the line is left out where it stands there already, unless it is long, and
+/// so may be shown from another column on.
 pub fn push_site(
     alloc: Global,
     out: &mut String,
@@ -101,7 +102,7 @@ pub fn push_site(
     } else {
         0
     };
-    if !is_shown {
+    if !is_shown || line.len() > ROOM {
         push_margin(out, site.line, true)?;
         push_part(out, line.as_slice(), first)?;
     }

@@ -8,7 +8,7 @@ use kernel_names::site_at;
 use loop_bounds::{LoopBound, cost, turns};
 use places::places;
 use std::alloc::{AllocError, Global};
-use types::typed::Typed;
+use typed_kernels::Typed;
 
 /// The largest budget that conditions have.
 const MOST: u64 = 1_000_000_000_000;

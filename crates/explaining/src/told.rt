@@ -11,7 +11,7 @@ use findings::{Finding, Grade};
 use launch_text::read_conditions_as;
 use shown_kernels::kernel::read_proper_kernel;
 use std::alloc::{AllocError, Global};
-use types::typed::Typed;
+use typed_kernels::Typed;
 
 fn is_possible(finding: &Finding) -> bool {
     matches!(finding.grade, Grade::Possible)

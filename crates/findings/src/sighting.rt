@@ -11,7 +11,7 @@ use crate::finding::Spot;
 use crate::sizes::is_of_size;
 use crate::visit::{Visit, accessing, item_at, standing, visit_of};
 use machine::world::World;
-use types::typed::Typed;
+use typed_kernels::Typed;
 use words::Fault;
 use work_item::identity::group_size;
 use work_item::item::{Item, Status};

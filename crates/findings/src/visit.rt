@@ -15,7 +15,7 @@ use clashes::access::Access;
 use kernel_names::site_at;
 use launch::launches::Counts;
 use machine::world::World;
-use types::typed::Typed;
+use typed_kernels::Typed;
 use work_item::identity::identity;
 use work_item::item::{Item, Status};
 

@@ -2,7 +2,7 @@
 
 use std::alloc::{AllocError, Global};
 use syntax::tree::Parameter;
-use types::typed::Typed;
+use typed_kernels::Typed;
 
 /// The names of a kernel's variables by their slots, those of its value parameters, which are the first of them, and those of its buffers;
 /// and whether products of names may be named.

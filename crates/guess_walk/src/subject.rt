@@ -6,7 +6,7 @@ ghost use Rattle.facts.specs.Launching.{are_sizes};
 
 use launch::conditions::Conditions;
 use places::Place;
-use types::typed::Typed;
+use typed_kernels::Typed;
 
 /// A kernel with the conditions under which it is launched, and its places; whether its walks are the wide ones, and whether these join
 /// ways. Each dimension of its work-group has 1 to 1,024 items.

@@ -5,8 +5,8 @@ use Rattle.std.proofs.lemmas.Bool.{cond_both}
 use Rattle.std.proofs.lemmas.Bool.Decides.{nat_tests}
 use Rattle.semantics.specs.Word.{Kind, Word, word, in_kind}
 use Rattle.semantics.specs.Launch.{IsArgument}
-use Rattle.texts.specs.LaunchFaults.{LaunchFault, Cursor, Step, refused, then, found}
-use Rattle.texts.specs.LaunchWords.{number_at, natural_within, natural_at, word_within, word_at}
+use Rattle.launch_text.specs.LaunchFaults.{LaunchFault, Cursor, Step, refused, then, found}
+use Rattle.launch_text.specs.LaunchWords.{number_at, natural_within, natural_at, word_within, word_at}
 
 pub then_back : {A B : Type 0} (s : Step A) (go : A → Step B) (b : B) → then s go ≡ Ok b → (a : A) × (s ≡ Ok a) × (go a ≡ Ok b)
 then_back (Ok a) go b e = (a, refl, e)

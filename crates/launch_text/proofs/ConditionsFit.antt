@@ -8,12 +8,12 @@ use Rattle.std.proofs.lemmas.List.Elements.{All-nil, All-cons, All-push}
 use Rattle.semantics.specs.Word.{Kind}
 use Rattle.semantics.specs.Launch.{Kernel, Three}
 use Rattle.semantics.specs.Conditions as meaning
-use Rattle.semantics.specs.Conditions.{Summand, IsNamed, ConditionsFit}
+use Rattle.semantics.specs.Conditions.{IsNamed}
 use Rattle.texts.specs.Surface.{Parameter, Buffer, Value}
-use Rattle.texts.specs.LaunchFaults.{Expected, UnknownName, LimitPassed, Cursor, Step, cursor, refused, then, expect, end_line}
-use Rattle.texts.specs.LaunchWords.{natural_at, word_at, name_at, is_known, end_text, due_blank, due_parameter, first_word, several}
-use Rattle.texts.specs.LaunchSums.{sum_at, buffer_number, buffer_found, buffer_at}
-use Rattle.texts.specs.ConditionsReading.{CountRange, ArgumentRange, Length, Requirement, ContentLine, Lined, length_meant, requirement_meant, content_meant, counts_at, three_counts_at, groups_line, argument_at, argument_line, argument_due, argument_lines, length_of, length_line, length_due, length_lines, requirement_line, requirement_lines, end_at, content_of, content_line, content_lines, budget_line, lined, version_line, conditions_at, conditions_of}
+use Rattle.launch_text.specs.LaunchFaults.{Expected, UnknownName, LimitPassed, Cursor, Step, cursor, refused, then, expect, end_line}
+use Rattle.launch_text.specs.LaunchWords.{natural_at, word_at, name_at, is_known, end_text, due_blank, due_parameter, first_word, several}
+use Rattle.launch_text.specs.LaunchSums.{sum_at, buffer_number, buffer_found, buffer_at}
+use Rattle.launch_text.specs.ConditionsReading.{CountRange, ArgumentRange, Length, Requirement, ContentLine, Lined, length_meant, requirement_meant, content_meant, counts_at, three_counts_at, groups_line, argument_at, argument_line, argument_due, argument_lines, length_of, length_line, length_due, length_lines, requirement_line, requirement_lines, end_at, content_of, content_line, content_lines, budget_line, lined, version_line, conditions_at, conditions_of}
 use Rattle.launch_text.specs.Fits.{AreCounts, IsRange, IsLength, IsOf}
 use Rattle.launch_text.proofs.Back.{then_back, same_back, when_back, unless_back, natural_back, word_back}
 use Rattle.kernel_names.specs.Parameters.{kinds, value_kind, buffer_kind}

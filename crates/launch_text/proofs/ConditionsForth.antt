@@ -10,15 +10,15 @@ use Rattle.semantics.specs.Word.{Kind}
 use Rattle.semantics.specs.Launch.{Three}
 use Rattle.semantics.specs.Conditions as meaning
 use Rattle.semantics.specs.Conditions.{Range, Summand}
-use Rattle.texts.specs.Identifiers.{is_identifier}
-use Rattle.texts.specs.Tokens.{is_word_byte}
+use Rattle.lines.specs.Identifiers.{is_identifier}
+use Rattle.lines.specs.Bytes.{is_word_byte}
 use Rattle.texts.specs.Surface.{Parameter, Buffer, Value}
 use Rattle.texts.specs.Spelling.{SpellsParameters}
-use Rattle.texts.specs.LaunchFaults.{Cursor, Step, cursor, expect, end_line}
-use Rattle.texts.specs.LaunchWords.{Conditions, due, due_blank, due_parameter, first_word, each, several}
-use Rattle.texts.specs.LaunchSums.{buffer_number, buffer_at}
-use Rattle.texts.specs.ConditionsReading.{Length, Requirement, ContentLine, Lined, length_meant, requirement_meant, content_meant, meant, length_of, length_line, length_due, requirement_of, requirement_line, end_at, content_of, content_line, content_lines, budget_line, lined, version_at, version_line, conditions_at, conditions_limit, conditions_of}
-use Rattle.texts.specs.ConditionsText.{IsShortSum, groups_text, length_text, requirement_text, end_text, content_text, budget_text, AreLengthLines, no_length, past_value, a_length, AreRequirementLines, no_requirement, a_requirement, AreContentLines, no_content, a_content, version_text, AreConditionsLines, IsConditionsText}
+use Rattle.launch_text.specs.LaunchFaults.{Cursor, Step, cursor, expect, end_line}
+use Rattle.launch_text.specs.LaunchWords.{Conditions, due, due_blank, due_parameter, first_word, each, several}
+use Rattle.launch_text.specs.LaunchSums.{buffer_number, buffer_at}
+use Rattle.launch_text.specs.ConditionsReading.{Length, Requirement, ContentLine, Lined, length_meant, requirement_meant, content_meant, meant, length_of, length_line, length_due, requirement_of, requirement_line, end_at, content_of, content_line, content_lines, budget_line, lined, version_at, numbered_line, headed_line, version_line, conditions_at, conditions_limit, conditions_of, head_behind, head_of}
+use Rattle.launch_text.specs.ConditionsText.{IsShortSum, groups_text, length_text, requirement_text, end_text, content_text, budget_text, AreLengthLines, no_length, past_value, a_length, AreRequirementLines, no_requirement, a_requirement, AreContentLines, no_content, a_content, IsOpening, one, two, three, head_in, AreConditionsLines, IsConditionsText}
 use Rattle.launch_text.specs.Parameters.{AreNamed}
 use Rattle.launch_text.proofs.Back.{same_back}
 use Rattle.launch_text.proofs.Several.{several_over, several_more}
@@ -27,6 +27,7 @@ use Rattle.launch_text.proofs.LinesForth.{blank_forth, end_forth, each_goes, eac
 use Rattle.launch_text.proofs.LaunchForth.{not_above}
 use Rattle.launch_text.proofs.LinesTaken.{length_shape, requirement_shape, content_shape}
 use Rattle.launch_text.proofs.SumsForth.{blank_stops, end_stops, short_sum_forth}
+use Rattle.launch_text.proofs.HeadForth.{IsBehind, head_forth}
 use Rattle.launch_text.proofs.RangesForth.{ReadsLines, groups_forth, arguments_forth}
 
 length_word_due : (rest : List ℕ) (n : ℕ) → due_blank Conditions (codes "length") (cursor n (codes "length " ++ rest)) ≡ Ok (cursor n rest)
@@ -41,12 +42,26 @@ budget_due : (rest : List ℕ) (n : ℕ) → due_blank Conditions (codes "budget
 unfolding due_blank due expect
 budget_due rest n = refl
 
-version_forth : (may products : Bool) (rest : List ℕ) → (products ≡ true → may ≡ true) → version_line may (cursor 1 (version_text products ++ (10 ∷ rest))) ≡ Ok (products, cursor 2 rest)
-unfolding version_line version_at due expect end_line
-version_forth true true rest h = refl
-version_forth false true rest h = let k = h refl in absurd cc
-version_forth true false rest h = refl
-version_forth false false rest h = refl
+-- a text opens, and what comes behind it is left
+version_forth : (may products : Bool) (opening rest : List ℕ) → IsOpening products opening → IsBehind rest → (products ≡ true → may ≡ true) → (m : ℕ) × (version_line may (cursor 1 (opening ++ rest)) ≡ Ok (products, cursor m rest))
+unfolding version_line numbered_line headed_line version_at due expect end_line
+version_forth true products opening rest one b h = (2, refl)
+version_forth false products opening rest one b h = (2, refl)
+version_forth true products opening rest two b h = (2, refl)
+version_forth false products opening rest two b h = let k = h refl in absurd cc
+version_forth true products opening rest (three head is) b h =
+    let own = head_forth head rest 2 is b in
+    (own.0, rw own.1 refl)
+version_forth false products opening rest (three head is) b h = let k = h refl in absurd cc
+
+-- and what head it has
+behind_forth : (products : Bool) (opening rest : List ℕ) (o : IsOpening products opening) → IsBehind rest → head_behind (cursor 1 (opening ++ rest)) ≡ Ok (head_in o)
+unfolding head_behind
+behind_forth products opening rest one b = refl
+behind_forth products opening rest two b = refl
+behind_forth products opening rest (three head is) b =
+    let own = head_forth head rest 2 is b in
+    rw own.1 refl
 
 least_forth : (rest : List ℕ) (n : ℕ) → expect (codes ">= ") (cursor n (codes ">= " ++ rest)) ≡ Ok (cursor n rest)
 unfolding expect
@@ -170,8 +185,8 @@ content_forth ps name sum x rest n i b h =
 contents_forth : (ps : List Parameter) (room : ℕ) (done : List ContentLine) (lines : List ℕ) (xs : List meaning.Content) (rest : List ℕ) (n : ℕ) → AreNamed ps → AreContentLines true ps lines xs → length xs ≤ room → bytes_eq (first_word rest) (codes "values") ≡ false
     → ReadsLines (several (codes "values") (content_line ps) room done) content_meant done lines xs rest n
 contents_forth ps room done lines xs rest n i no_content l h = record { read = []; line = n; is_read = none_left (codes "values") (content_line ps) room done rest n h; is_meant = refl }
-contents_forth ps zero done lines xs rest n i (a_content {xs = others} name x two b s more) l h = absurd (omega arith)
-contents_forth ps (suc room) done lines xs rest n i (a_content {sum = sum} {lines = after} {xs = others} name x two b s more) l h =
+contents_forth ps zero done lines xs rest n i (a_content {xs = others} name x has b s more) l h = absurd (omega arith)
+contents_forth ps (suc room) done lines xs rest n i (a_content {sum = sum} {lines = after} {xs = others} name x has b s more) l h =
     let own : ContentLine = content_of x.buffer x.is_upper x.sum n in
     let behind = contents_forth ps room (done ++ own ∷ []) after others rest (n + 1) i more (omega (arith, l)) h in
     record {
@@ -188,12 +203,12 @@ held_forth : (is_two : Bool) (ps : List Parameter) (lines : List ℕ) (xs : List
 unfolding content_lines
 held_forth true ps lines xs rest n i a l h = contents_forth ps 16 [] lines xs rest n i a l h
 held_forth false ps lines xs rest n i no_content l h = record { read = []; line = n; is_read = refl; is_meant = refl }
-held_forth false ps lines xs rest n i (a_content name x two b s more) l h = absurd cc
+held_forth false ps lines xs rest n i (a_content name x has b s more) l h = absurd cc
 
 -- another line comes behind the requirements
 no_requirement_next : (is_two : Bool) (ps : List Parameter) (lines : List ℕ) (xs : List meaning.Content) (last : List ℕ) → AreContentLines is_two ps lines xs → bytes_eq (first_word last) (codes "require") ≡ false → bytes_eq (first_word (lines ++ last)) (codes "require") ≡ false
 no_requirement_next is_two ps lines xs last no_content h = h
-no_requirement_next is_two ps lines xs last (a_content name x two b s more) h = refl
+no_requirement_next is_two ps lines xs last (a_content name x has b s more) h = refl
 
 budget_forth : (m : ℕ) (n : ℕ) → 1 ≤ m → m ≤ 1000000000000 → budget_line (cursor n (budget_text m)) ≡ Ok (m, cursor (n + 1) [])
 unfolding budget_line
@@ -212,15 +227,16 @@ lines_forth may products ps text c i may_have t =
     let behind_lengths : List ℕ = t.requirement_lines ++ behind_requires in
     let behind_arguments : List ℕ = t.length_lines ++ behind_lengths in
     let body : List ℕ = t.argument_lines ++ behind_arguments in
-    let groups = groups_forth c.groups body 2 t.counts_x t.counts_y t.counts_z t.few_groups in
-    let arguments = arguments_forth ps [] ps t.argument_lines c.arguments behind_arguments 3 i t.arguments in
+    let version = version_forth may products t.opening (groups_text c.groups ++ body) t.opens refl may_have in
+    let groups = groups_forth c.groups body version.0 t.counts_x t.counts_y t.counts_z t.few_groups in
+    let arguments = arguments_forth ps [] ps t.argument_lines c.arguments behind_arguments (version.0 + 1) i t.arguments in
     let lengths = lengths_forth products ps [] ps t.length_lines c.lengths behind_lengths arguments.line i i t.lengths in
     let requires = requirements_forth products ps 16 [] t.requirement_lines c.requires behind_requires lengths.line i t.requires t.few_requires (no_requirement_next products ps t.content_lines c.contents last t.contents refl) in
     let contents = held_forth products ps t.content_lines c.contents last requires.line i t.contents t.few_contents refl in (
-      lined groups.groups 2 arguments.read lengths.read requires.read contents.read c.budget,
+      lined groups.groups version.0 arguments.read lengths.read requires.read contents.read c.budget,
       rw (
         t.is_text,
-        version_forth may products (groups_text c.groups ++ body) may_have,
+        version.1,
         groups.is_read,
         arguments.is_read,
         lengths.is_read,
@@ -242,6 +258,13 @@ pub conditions_forth : (may : Bool) (ps : List Parameter) (text : List ℕ) (c :
 conditions_forth may ps text c i t =
     let l = lines_forth may t.has_products ps text c (spelt_names ps i) t.may_have t.lines in
     (l.0, cond-false (nat_lt conditions_limit (length text)) _ _ (not_above conditions_limit (length text) t.within_limit) ∙ l.1, l.2)
+
+pub head_forth_of : (may : Bool) (ps : List Parameter) (text : List ℕ) (c : meaning.Conditions) (t : IsConditionsText may ps text c) → head_of text ≡ Ok (head_in t.lines.opens)
+head_forth_of may ps text c t =
+    let l = t.lines in
+    let body : List ℕ = l.argument_lines ++ (l.length_lines ++ (l.requirement_lines ++ (l.content_lines ++ budget_text c.budget))) in
+    cond-false (nat_lt conditions_limit (length text)) _ _ (not_above conditions_limit (length text) t.within_limit)
+    ∙ ap (λ bytes. head_behind (cursor 1 bytes)) l.is_text ∙ behind_forth t.has_products l.opening (groups_text c.groups ++ body) l.opens refl
 
 pub one_meaning : (may : Bool) (ps : List Parameter) (text : List ℕ) (c d : meaning.Conditions) → SpellsParameters ps → IsConditionsText may ps text c → IsConditionsText may ps text d → c ≡ d
 one_meaning may ps text c d i t u =

@@ -1,16 +1,18 @@
 -- What is read of a conditions text is what its text says.
-use Rattle.std.proofs.Common.{◌≡◌, ℕ, nat_lt, Bool, true, false, List, [], ◌∷◌, ◌++◌, length, map, Ok, ap, sym, ◌∙◌, subst}
+use Rattle.std.proofs.Common.{◌≡◌, ℕ, nat_lt, Bool, true, false, List, [], ◌∷◌, ◌++◌, length, map, Ok, refl, ap, sym, ◌∙◌, subst}
 use Rattle.std.specs.Prelude.{codes, ◌&&◌}
 use Rattle.std.proofs.lemmas.Bool.{cond_both, and_parts}
 use Rattle.std.proofs.lemmas.List.{append-nil}
 use Rattle.texts.specs.Surface.{Parameter}
-use Rattle.texts.specs.LaunchFaults.{LimitPassed, Cursor, cursor, then, sees, past, expect, end_line}
-use Rattle.texts.specs.LaunchWords.{Conditions, due, end_text}
-use Rattle.texts.specs.ConditionsReading.{Lined, meant, argument_meant, length_meant, requirement_meant, content_meant, groups_line, argument_lines, length_lines, requirement_lines, content_lines, budget_line, lined, version_at, version_line, conditions_at, conditions_limit, conditions_of}
-use Rattle.texts.specs.ConditionsText.{groups_text, budget_text, AreArgumentLines, AreLengthLines, AreRequirementLines, AreContentLines, version_text, AreConditionsLines, IsConditionsText}
-use Rattle.texts.proofs.Fits.{begins}
+use Rattle.launch_text.specs.LaunchFaults.{LimitPassed, Cursor, cursor, then, sees, past, expect, end_line}
+use Rattle.launch_text.specs.LaunchWords.{Conditions, due, end_text}
+use Rattle.launch_text.specs.HeadReading.{Head, head_at, past_head}
+use Rattle.launch_text.specs.ConditionsReading.{Lined, meant, argument_meant, length_meant, requirement_meant, content_meant, groups_line, argument_lines, length_lines, requirement_lines, content_lines, budget_line, lined, version_at, numbered_line, headed_line, is_headed, version_line, conditions_at, conditions_limit, conditions_of}
+use Rattle.launch_text.specs.ConditionsText.{groups_text, budget_text, AreArgumentLines, AreLengthLines, AreRequirementLines, AreContentLines, head_text, IsHead, IsOpening, one, two, three, AreConditionsLines, IsConditionsText}
+use Rattle.lines.proofs.Fronts.{begins}
 use Rattle.launch_text.proofs.Back.{then_back, same_back, unless_back}
 use Rattle.launch_text.proofs.Taken.{expect_took, end_took, due_took, end_text_took}
+use Rattle.launch_text.proofs.HeadTaken.{head_took}
 use Rattle.launch_text.proofs.LinesTaken.{groups_meant, groups_took, arguments_took, lengths_took, requirements_took, contents_took, budget_took, AreFew, not_above}
 
 -- a version behind its keyword
@@ -33,32 +35,82 @@ version_took may c t =
     (λ h e. let d = then_back (expect (codes " 1") c) _ t e in
     subst (λ (r : Bool × Cursor). TookVersion may c r) (same_back (false, d.0) t d.2) (λ f. one_is_not_two f, expect_took (codes " 1") c d.0 d.1))
 
--- the first line in front of the others
-headed : (products : Bool) (all head rest : List ℕ) → all ≡ codes "conditions" ++ head → head ≡ version_mark products ++ (10 ∷ rest) → all ≡ version_text products ++ (10 ∷ rest)
-headed true all head rest e f = e ∙ ap (λ x. codes "conditions" ++ x) f
-headed false all head rest e f = e ∙ ap (λ x. codes "conditions" ++ x) f
+-- the first line of a text of version 1 or 2, in front of the others
+abbrev first_text : (products : Bool) → List ℕ
+first_text true = codes "conditions 2\n"
+first_text false = codes "conditions 1\n"
+
+first_opens : (products : Bool) → IsOpening products (first_text products)
+first_opens true = two
+first_opens false = one
+
+first_joined : (products : Bool) (all head rest : List ℕ) → all ≡ codes "conditions" ++ head → head ≡ version_mark products ++ (10 ∷ rest) → all ≡ first_text products ++ rest
+first_joined true all head rest e f = e ∙ ap (λ x. codes "conditions" ++ x) f
+first_joined false all head rest e f = e ∙ ap (λ x. codes "conditions" ++ x) f
+
+abbrev TookNumbered : (may_be_two : Bool) → Cursor → Bool × Cursor → Type 0
+TookNumbered may c t = (t.0 ≡ true → may ≡ true) × (c.rest ≡ version_mark t.0 ++ (10 ∷ t.1.rest))
+
+numbered_took : (may : Bool) (c : Cursor) (t : Bool × Cursor) → numbered_line may c ≡ Ok t → TookNumbered may c t
+unfolding numbered_line
+numbered_took may c t e =
+    let v = then_back (version_at may c) _ t e in
+    let d = then_back (end_line v.0.1) _ t v.2 in
+    let mark = version_took may c v.0 v.1 in
+    subst (λ (r : Bool × Cursor). TookNumbered may c r) (same_back (v.0.0, d.0) t d.2)
+    (mark.0, mark.1 ∙ ap (λ x. version_mark v.0.0 ++ x) (end_took v.0.1 d.0 d.1))
+
+-- what stands behind the mark of version 3
+abbrev TookHeaded : Cursor → Bool × Cursor → Type 0
+TookHeaded c t = (h : Head) × IsHead h × (t.0 ≡ true) × (c.rest ≡ 10 ∷ (head_text h ++ t.1.rest))
+
+headed_took : (c : Cursor) (t : Bool × Cursor) → headed_line c ≡ Ok t → TookHeaded c t
+unfolding headed_line
+headed_took c t e =
+    let d = then_back (end_line c) _ t e in
+    let p = then_back (past_head d.0) _ t d.2 in
+    let h = then_back (head_at d.0) _ p.0 p.1 in
+    let took = head_took d.0 h.0 h.1 in
+    subst (λ (r : Bool × Cursor). TookHeaded c r) (same_back (true, p.0) t p.2)
+    (h.0.0, took.1, refl, end_took c d.0 d.1 ∙ ap (λ x. 10 ∷ x) (took.0 ∙ ap (λ (u : Cursor). head_text h.0.0 ++ u.rest) (same_back h.0.1 p.0 h.2)))
 
 behind_lengths : (requires contents budget r4 r5 r6 r7 : List ℕ) → r4 ≡ requires ++ r5 → r5 ≡ contents ++ r6 → r6 ≡ budget ++ r7 → r7 ≡ [] → r4 ≡ requires ++ (contents ++ budget)
 behind_lengths requires contents budget r4 r5 r6 r7 e f g h =
     e ∙ ap (λ x. requires ++ x) (f ∙ ap (λ x. contents ++ x) (g ∙ ap (λ x. budget ++ x) h ∙ append-nil budget))
 
-whole : (products : Bool) (all groups arguments lengths behind r1 r2 r3 r4 : List ℕ) → all ≡ version_text products ++ (10 ∷ r1) → r1 ≡ groups ++ r2 → r2 ≡ arguments ++ r3 → r3 ≡ lengths ++ r4 → r4 ≡ behind
-    → all ≡ version_text products ++ (10 ∷ (groups ++ (arguments ++ (lengths ++ behind))))
-whole products all groups arguments lengths behind r1 r2 r3 r4 a b c d e =
-    a ∙ ap (λ x. version_text products ++ (10 ∷ x)) (b ∙ ap (λ x. groups ++ x) (c ∙ ap (λ x. arguments ++ x) (d ∙ ap (λ x. lengths ++ x) e)))
+whole : (opening all groups arguments lengths behind r1 r2 r3 r4 : List ℕ) → all ≡ opening ++ r1 → r1 ≡ groups ++ r2 → r2 ≡ arguments ++ r3 → r3 ≡ lengths ++ r4 → r4 ≡ behind
+    → all ≡ opening ++ (groups ++ (arguments ++ (lengths ++ behind)))
+whole opening all groups arguments lengths behind r1 r2 r3 r4 a b c d e =
+    a ∙ ap (λ x. opening ++ x) (b ∙ ap (λ x. groups ++ x) (c ∙ ap (λ x. arguments ++ x) (d ∙ ap (λ x. lengths ++ x) e)))
 
-abbrev TookHead : (may_be_two : Bool) → Cursor → Bool × Cursor → Type 0
-TookHead may c t = (t.0 ≡ true → may ≡ true) × (c.rest ≡ version_text t.0 ++ (10 ∷ t.1.rest))
+-- how the text opened
+record TookOpening (may_be_two : Bool) (c : Cursor) (t : Bool × Cursor) : Type 0 where
+  pub opening : List ℕ
+  pub opens : IsOpening t.0 opening
+  pub may_have : t.0 ≡ true → may_be_two ≡ true
+  pub rest : c.rest ≡ opening ++ t.1.rest
 
-head_took : (may : Bool) (c : Cursor) (t : Bool × Cursor) → version_line may c ≡ Ok t → TookHead may c t
+opening_took : (may : Bool) (c : Cursor) (t : Bool × Cursor) → version_line may c ≡ Ok t → TookOpening may c t
 unfolding version_line
-head_took may c t e =
+opening_took may c t e =
     let a = then_back (due _ _ c) _ t e in
-    let v = then_back (version_at may a.0) _ t a.2 in
-    let d = then_back (end_line v.0.1) _ t v.2 in
-    let mark = version_took may a.0 v.0 v.1 in
-    subst (λ (r : Bool × Cursor). TookHead may c r) (same_back (v.0.0, d.0) t d.2)
-    (mark.0, headed v.0.0 c.rest a.0.rest d.0.rest (due_took Conditions (codes "conditions") c a.0 a.1) (mark.1 ∙ ap (λ x. version_mark v.0.0 ++ x) (end_took v.0.1 d.0 d.1)))
+    let word = due_took Conditions (codes "conditions") c a.0 a.1 in
+    cond_both (is_headed may a.0) (headed_line (past 2 a.0)) (numbered_line may a.0) (λ s. s ≡ Ok t → TookOpening may c t)
+    (λ h f. let p = and_parts may (sees (codes " 3") a.0) h in
+    let own = headed_took (past 2 a.0) t f in
+    record {
+      opening = codes "conditions 3\n" ++ head_text own.0;
+      opens = subst (λ b. IsOpening b (codes "conditions 3\n" ++ head_text own.0)) (sym own.2) (three own.0 own.1);
+      may_have = λ _. p.0;
+      rest = word ∙ ap (λ x. codes "conditions" ++ x) (begins a.0.rest (codes " 3") p.1 ∙ ap (λ x. codes " 3" ++ x) own.3);
+    })
+    (λ _ f. let own = numbered_took may a.0 t f in
+    record {
+      opening = first_text t.0;
+      opens = first_opens t.0;
+      may_have = own.0;
+      rest = first_joined t.0 c.rest a.0.rest t.1.rest word own.1;
+    }) a.2
 
 lines_took : (may : Bool) (ps : List Parameter) (c : Cursor) (x : Lined) → conditions_at may ps c ≡ Ok x → (products : Bool) × (products ≡ true → may ≡ true) × AreConditionsLines products ps c.rest (meant x)
 unfolding conditions_at
@@ -81,16 +133,18 @@ lines_took may ps c x e =
     let b = budget_took contents.0.1 budget.0 budget.1 in
     let few = subst (λ rs. AreFew (AreRequirementLines products ps) 16 r.lines (map requirement_meant rs)) (sym r.all) r.are in
     let held = subst (λ xs. AreFew (AreContentLines products ps) 16 h.lines (map content_meant xs)) (sym h.all) h.are in
-    let first = head_took may c version.0 version.1 in
+    let first = opening_took may c version.0 version.1 in
     let last = behind_lengths r.lines h.lines (budget_text budget.0.0) lengths.0.1.rest requires.0.1.rest contents.0.1.rest budget.0.1.rest r.rest h.rest b.0 (end_text_took budget.0.1 end.0 end.1) in (
       products,
-      first.0,
+      first.may_have,
       subst (λ (y : Lined). AreConditionsLines products ps c.rest (meant y)) (same_back (lined groups.0.0 head.line arguments.0.0 lengths.0.0 requires.0.0 contents.0.0 budget.0.0) x end.2) (record {
+        opening = first.opening;
         argument_lines = a.lines;
         length_lines = l.lines;
         requirement_lines = r.lines;
         content_lines = h.lines;
-        is_text = whole products c.rest (groups_text (groups_meant groups.0.0)) a.lines l.lines (r.lines ++ (h.lines ++ budget_text budget.0.0)) head.rest groups.0.1.rest arguments.0.1.rest lengths.0.1.rest first.1 g.rest a.rest l.rest last;
+        is_text = whole first.opening c.rest (groups_text (groups_meant groups.0.0)) a.lines l.lines (r.lines ++ (h.lines ++ budget_text budget.0.0)) head.rest groups.0.1.rest arguments.0.1.rest lengths.0.1.rest first.rest g.rest a.rest l.rest last;
+        opens = first.opens;
         counts_x = g.counts.x;
         counts_y = g.counts.y;
         counts_z = g.counts.z;

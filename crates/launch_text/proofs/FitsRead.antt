@@ -7,9 +7,9 @@ use Rattle.std.proofs.lemmas.List.Elements.{All-push}
 use Rattle.semantics.specs.Launch.{Kernel}
 use Rattle.semantics.specs.Conditions.{Factor, ArgumentFactor, GroupsFactor, Summand, Constant, Product, IsNamedFactor, IsNamed}
 use Rattle.texts.specs.Surface.{Parameter}
-use Rattle.texts.specs.LaunchFaults.{Cursor, Step, refused, then, sees, past}
-use Rattle.texts.specs.LaunchWords.{factor_at, name_at, is_known}
-use Rattle.texts.specs.LaunchSums.{value_number, argument_found, argument_at, symbol_at, times, symbols_at, begins_number, term_at, sum_at}
+use Rattle.launch_text.specs.LaunchFaults.{Cursor, Step, refused, then, sees, past}
+use Rattle.launch_text.specs.LaunchWords.{factor_at, name_at, is_known}
+use Rattle.launch_text.specs.LaunchSums.{value_number, argument_found, argument_at, symbol_at, times, symbols_at, begins_number, term_at, sum_at}
 use Rattle.launch_text.proofs.Back.{then_back, same_back}
 use Rattle.kernel_names.specs.Parameters.{kinds, value_kind}
 use Rattle.launch_text.proofs.Parameters.{value_below}

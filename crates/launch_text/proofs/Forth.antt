@@ -11,16 +11,16 @@ use Rattle.std.proofs.lemmas.Fmt.{decimal_nonempty}
 use Rattle.std.proofs.lemmas.Slice.Eq.{bytes_eq-Decides}
 use Rattle.semantics.specs.Word.{Kind, Int, Uint, Size, Word, in_kind}
 use Rattle.semantics.specs.Launch.{IsArgument}
-use Rattle.texts.specs.Numbers.{is_decimal_digit}
-use Rattle.texts.specs.Tokens.{is_letter, is_word_byte}
-use Rattle.texts.specs.Lines.{integer_of}
-use Rattle.texts.specs.Identifiers.{all_word_bytes, is_identifier}
-use Rattle.texts.specs.Lines.{is_integer}
+use Rattle.lines.specs.Bytes.{is_decimal_digit}
+use Rattle.lines.specs.Bytes.{is_letter, is_word_byte}
+use Rattle.lines.specs.Lines.{integer_of}
+use Rattle.lines.specs.Identifiers.{all_word_bytes, is_identifier}
+use Rattle.lines.specs.Lines.{is_integer}
 use Rattle.texts.specs.Surface.{Parameter}
-use Rattle.texts.specs.LaunchFaults.{Cursor, Step, cursor}
-use Rattle.texts.specs.LaunchWords.{number_length, number_found, number_at, natural_at, word_at, name_at, parameter_at}
-use Rattle.texts.proofs.Fits.{both}
-use Rattle.texts.proofs.Decimals.{digits_of_decimal, integer_forth}
+use Rattle.launch_text.specs.LaunchFaults.{Cursor, Step, cursor}
+use Rattle.launch_text.specs.LaunchWords.{number_length, number_found, number_at, natural_at, word_at, name_at, parameter_at}
+use Rattle.lines.proofs.Fronts.{both}
+use Rattle.lines.proofs.Decimals.{digits_of_decimal, integer_forth}
 
 digits_prefix : (ds rest : List ℕ) → all_ascii_digits ds ≡ true → prefix_len is_decimal_digit rest ≡ 0 → prefix_len is_decimal_digit (ds ++ rest) ≡ length ds
 digits_prefix [] rest h s = s
@@ -35,7 +35,7 @@ no_sign (b ∷ ds) rest l h = grind (arith, nat_tests)
 some_digit : (n : ℕ) → n < 2 ^ 64 → 0 < length (decimal n)
 some_digit n l = omega (arith, decimal_nonempty n l)
 
-one_more : (n : ℕ) → 1 + n ≡ suc n
+pub one_more : (n : ℕ) → 1 + n ≡ suc n
 one_more n = omega arith
 
 length_forth : (z : ℤ) (rest : List ℕ) → is_integer z ≡ true → prefix_len is_decimal_digit rest ≡ 0 → number_length (signed_decimal z ++ rest) ≡ length (signed_decimal z)

@@ -8,9 +8,9 @@ use Rattle.std.proofs.lemmas.List.Elements.{All-nil, All-cons, All-push}
 use Rattle.semantics.specs.Word.{Kind, Word, in_kind}
 use Rattle.semantics.specs.Launch.{Kernel, Three, IsCount, IsArgument, IsBuffer, Fits}
 use Rattle.texts.specs.Surface.{Parameter, Buffer, Value}
-use Rattle.texts.specs.LaunchFaults.{LimitPassed, Cursor, Step, cursor, refused, then, sees, past, expect, end_line}
-use Rattle.texts.specs.LaunchWords.{natural_at, word_at, head_line, end_text, due_blank, due_parameter}
-use Rattle.texts.specs.LaunchReading.{TypedLaunch, number, meant, counts, groups_line, argument_line, argument_due, argument_lines, list_at, fill_at, words_at, most_words, words_of, buffer_line, buffer_due, buffer_lines, fill_line, given, launch_at, launch_of}
+use Rattle.launch_text.specs.LaunchFaults.{LimitPassed, Cursor, Step, cursor, refused, then, sees, past, expect, end_line}
+use Rattle.launch_text.specs.LaunchWords.{natural_at, word_at, head_line, end_text, due_blank, due_parameter}
+use Rattle.launch_text.specs.LaunchReading.{TypedLaunch, number, meant, counts, groups_line, argument_line, argument_due, argument_lines, list_at, fill_at, words_at, most_words, words_of, buffer_line, buffer_due, buffer_lines, fill_line, given, launch_at, launch_of}
 use Rattle.launch_text.proofs.Back.{then_back, same_back, unless_back, natural_back, word_back}
 use Rattle.kernel_names.specs.Parameters.{kinds, value_kind, buffer_kind}
 use Rattle.launch_text.proofs.Parameters.{Skips, Reads, each_back}

@@ -5,9 +5,9 @@ use Rattle.std.specs.Fmt.{decimal}
 use Rattle.std.proofs.lemmas.Bool.{cond-false}
 use Rattle.std.proofs.lemmas.Bool.Decides.{nat_tests}
 use Rattle.texts.specs.Surface.{Parameter}
-use Rattle.texts.specs.LaunchFaults.{cursor}
-use Rattle.texts.specs.LaunchReading.{TypedLaunch, most_words, words_of, launch_limit, launch_at, launch_of}
-use Rattle.texts.specs.LaunchText as text
+use Rattle.launch_text.specs.LaunchFaults.{cursor}
+use Rattle.launch_text.specs.LaunchReading.{TypedLaunch, most_words, words_of, launch_limit, launch_at, launch_of}
+use Rattle.launch_text.specs.LaunchText as text
 use Rattle.launch_text.specs.Parameters.{IsGiven}
 use Rattle.launch_text.proofs.LinesForth.{head_forth, end_text_forth, groups_forth, fill_forth, arguments_forth, buffers_forth}
 

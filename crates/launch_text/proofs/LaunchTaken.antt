@@ -8,12 +8,12 @@ use Rattle.std.proofs.lemmas.List.Sums.{sum_by-cons}
 use Rattle.semantics.specs.Word.{Kind, Word}
 use Rattle.semantics.specs.Launch.{Three, IsCount, IsArgument}
 use Rattle.texts.specs.Surface.{Parameter, Buffer, Value}
-use Rattle.texts.specs.LaunchFaults.{LimitPassed, Cursor, Step, cursor, refused, then, sees, past, expect, end_line}
-use Rattle.texts.specs.LaunchWords.{Launch, natural_at, word_at, due_blank, due_parameter, head_line, end_text, each}
-use Rattle.texts.specs.LaunchReading.{TypedLaunch, number, meant, counts, groups_line, argument_line, argument_due, argument_lines, list_at, fill_at, words_at, most_words, words_of, buffer_line, buffer_due, buffer_lines, fill_line, given, launch_at, launch_limit, launch_of}
-use Rattle.texts.specs.LaunchText.{argument_text, fill_text}
-use Rattle.texts.specs.LaunchSpelling.{AreListed, no_word, a_word, AreContents, listed, filled, contents_text, counts_text, AreWordLines, no_argument, past_buffer, an_argument, AreBufferLines, no_buffer, past_value, a_buffer, AreLaunchLines, IsLaunchText}
-use Rattle.texts.proofs.Fits.{begins}
+use Rattle.launch_text.specs.LaunchFaults.{LimitPassed, Cursor, Step, cursor, refused, then, sees, past, expect, end_line}
+use Rattle.launch_text.specs.LaunchWords.{Launch, natural_at, word_at, due_blank, due_parameter, head_line, end_text, each}
+use Rattle.launch_text.specs.LaunchReading.{TypedLaunch, number, meant, counts, groups_line, argument_line, argument_due, argument_lines, list_at, fill_at, words_at, most_words, words_of, buffer_line, buffer_due, buffer_lines, fill_line, given, launch_at, launch_limit, launch_of}
+use Rattle.launch_text.specs.LaunchText.{argument_text, fill_text}
+use Rattle.launch_text.specs.LaunchSpelling.{AreListed, no_word, a_word, AreContents, listed, filled, contents_text, counts_text, AreWordLines, no_argument, past_buffer, an_argument, AreBufferLines, no_buffer, past_value, a_buffer, AreLaunchLines, IsLaunchText}
+use Rattle.lines.proofs.Fronts.{begins}
 use Rattle.launch_text.proofs.Back.{then_back, same_back, unless_back, natural_back, word_back}
 use Rattle.launch_text.proofs.Fills.{map-filled}
 use Rattle.launch_text.proofs.Lists.{words-push}

@@ -6,8 +6,8 @@ use Rattle.std.proofs.lemmas.List.{length-replicate, length-map}
 use Rattle.std.proofs.lemmas.List.Elements.{All-nil, All-cons}
 use Rattle.semantics.specs.Word.{Kind, Word as Typed, word as typed, in_kind}
 use Rattle.semantics.specs.Launch.{Kernel, Launch, IsArgument, IsBuffer, Fits}
-use Rattle.texts.specs.ConditionsReading as reading
-use Rattle.texts.specs.LaunchReading as launches
+use Rattle.launch_text.specs.ConditionsReading as reading
+use Rattle.launch_text.specs.LaunchReading as launches
 use Rattle.words.specs.View.{kind, word}
 use Rattle.launch.specs.View as seen
 use Rattle.launch.specs.Least.{low, least_with, least_length, number, probe}

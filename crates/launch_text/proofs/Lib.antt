@@ -6,6 +6,9 @@ pub mod Counts
 pub mod Fills
 pub mod FitsRead
 pub mod Forth
+pub mod HeadForth
+pub mod HeadPassed
+pub mod HeadTaken
 pub mod LaunchFit
 pub mod LaunchForth
 pub mod LaunchTaken
@@ -13,6 +16,7 @@ pub mod LeastFits
 pub mod LinesForth
 pub mod LinesTaken
 pub mod Lists
+pub mod NameTexts
 pub mod Parameters
 pub mod RangesForth
 pub mod Rows

@@ -2,19 +2,19 @@
 use Rattle.std.proofs.Common.{◌≡◌, ℕ, zero, suc, ◌+◌, ◌-◌, ◌<◌, ◌≤◌, ◌^◌, true, List, [], ◌∷◌, ◌++◌, length, Option, Some, None, Ok, refl, ap, sym, ◌∙◌, append_assoc, arith}
 use Rattle.std.specs.Prelude.{codes}
 use Rattle.std.specs.List.{AllZip, flat_map, prefix_len}
-use Rattle.texts.specs.Numbers.{is_decimal_digit}
+use Rattle.lines.specs.Bytes.{is_decimal_digit}
 use Rattle.std.specs.Fmt.{decimal, signed_decimal}
 use Rattle.std.proofs.lemmas.List.{append-nil}
 use Rattle.std.proofs.lemmas.List.Sums.{sum_by-cons}
 use Rattle.semantics.specs.Word.{Kind, Word}
 use Rattle.semantics.specs.Launch.{IsArgument}
-use Rattle.texts.specs.Identifiers.{is_identifier}
+use Rattle.lines.specs.Identifiers.{is_identifier}
 use Rattle.texts.specs.Surface.{Parameter, Buffer, Value}
-use Rattle.texts.specs.LaunchFaults.{Cursor, Step, cursor, then, expect, end_line}
-use Rattle.texts.specs.LaunchWords.{Launch, word_at, due, due_blank, due_parameter, head_line, go_on, each, end_text}
-use Rattle.texts.specs.LaunchReading as reading
-use Rattle.texts.specs.LaunchReading.{TypedLaunch, groups_line, argument_line, argument_due, list_at, words_at, most_words, words_of, buffer_line, buffer_due, fill_line}
-use Rattle.texts.specs.LaunchText as text
+use Rattle.launch_text.specs.LaunchFaults.{Cursor, Step, cursor, then, expect, end_line}
+use Rattle.launch_text.specs.LaunchWords.{Launch, word_at, due, due_blank, due_parameter, head_line, go_on, each, end_text}
+use Rattle.launch_text.specs.LaunchReading as reading
+use Rattle.launch_text.specs.LaunchReading.{TypedLaunch, groups_line, argument_line, argument_due, list_at, words_at, most_words, words_of, buffer_line, buffer_due, fill_line}
+use Rattle.launch_text.specs.LaunchText as text
 use Rattle.kernel_names.specs.Parameters.{value_kind, buffer_kind, kinds}
 use Rattle.launch_text.specs.Parameters.{AreNamed, AreWords}
 use Rattle.launch_text.proofs.Lists.{words-push}

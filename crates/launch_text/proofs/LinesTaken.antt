@@ -10,12 +10,12 @@ use Rattle.semantics.specs.Word.{Kind, in_kind}
 use Rattle.semantics.specs.Launch.{Three}
 use Rattle.semantics.specs.Conditions.{Range}
 use Rattle.texts.specs.Surface.{Parameter, Buffer, Value}
-use Rattle.texts.specs.LaunchFaults.{Expected, UnknownName, LimitPassed, EmptyRange, Cursor, Step, refused, then, sees, past, expect, end_line}
-use Rattle.texts.specs.LaunchWords.{Conditions, natural_at, word_at, name_at, is_known, due_blank, due_parameter, first_word, each, several}
-use Rattle.texts.specs.LaunchSums.{sum_at, buffer_number, buffer_found, buffer_at}
-use Rattle.texts.specs.ConditionsReading.{CountRange, ArgumentRange, Length, Requirement, ContentLine, counts_meant, argument_meant, length_meant, requirement_meant, content_meant, counts_between, counts_at, words_between, three_counts_at, three, groups_line, argument_at, argument_line, argument_due, length_of, length_line, length_due, requirement_of, requirement_line, requirement_lines, end_at, content_of, content_line, content_lines, budget_line}
-use Rattle.texts.specs.ConditionsText.{IsShortSum, range_text, AreCounts, AreOfKind, groups_text, argument_text, length_text, requirement_text, end_text, content_text, budget_text, AreArgumentLines, no_argument, past_buffer, an_argument, AreLengthLines, no_length, past_value, a_length, AreRequirementLines, no_requirement, a_requirement, AreContentLines, no_content, a_content}
-use Rattle.texts.proofs.Fits.{begins}
+use Rattle.launch_text.specs.LaunchFaults.{Expected, UnknownName, LimitPassed, EmptyRange, Cursor, Step, refused, then, sees, past, expect, end_line}
+use Rattle.launch_text.specs.LaunchWords.{Conditions, natural_at, word_at, name_at, is_known, due_blank, due_parameter, first_word, each, several}
+use Rattle.launch_text.specs.LaunchSums.{sum_at, buffer_number, buffer_found, buffer_at}
+use Rattle.launch_text.specs.ConditionsReading.{CountRange, ArgumentRange, Length, Requirement, ContentLine, counts_meant, argument_meant, length_meant, requirement_meant, content_meant, counts_between, counts_at, words_between, three_counts_at, three, groups_line, argument_at, argument_line, argument_due, length_of, length_line, length_due, requirement_of, requirement_line, requirement_lines, end_at, content_of, content_line, content_lines, budget_line}
+use Rattle.launch_text.specs.ConditionsText.{IsShortSum, range_text, AreCounts, AreOfKind, groups_text, argument_text, length_text, requirement_text, end_text, content_text, budget_text, AreArgumentLines, no_argument, past_buffer, an_argument, AreLengthLines, no_length, past_value, a_length, AreRequirementLines, no_requirement, a_requirement, AreContentLines, no_content, a_content}
+use Rattle.lines.proofs.Fronts.{begins}
 use Rattle.launch.proofs.Unmet.{le-true}
 use Rattle.launch_text.proofs.Back.{then_back, same_back, when_back, unless_back, natural_back, word_back}
 use Rattle.launch_text.proofs.Taken.{expect_took, end_took, natural_took, word_took, name_took, due_blank_took, due_parameter_took}

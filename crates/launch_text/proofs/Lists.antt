@@ -3,9 +3,9 @@ use Rattle.std.proofs.Common.{◌≡◌, ℕ, zero, suc, ◌+◌, ◌-◌, List,
 use Rattle.std.specs.Prelude.{codes}
 use Rattle.std.proofs.lemmas.List.Sums.{sum_by-append, sum_by-cons}
 use Rattle.semantics.specs.Word.{Kind, Word}
-use Rattle.texts.specs.LaunchFaults.{Cursor, Step, LimitPassed, refused, then, sees, past}
-use Rattle.texts.specs.LaunchWords.{word_at}
-use Rattle.texts.specs.LaunchReading.{list_at, words_of}
+use Rattle.launch_text.specs.LaunchFaults.{Cursor, Step, LimitPassed, refused, then, sees, past}
+use Rattle.launch_text.specs.LaunchWords.{word_at}
+use Rattle.launch_text.specs.LaunchReading.{list_at, words_of}
 
 -- what follows a word
 abbrev pub behind_word : Kind → (room : ℕ) → List Word → Word × Cursor → Step (List Word × Cursor)

@@ -1,23 +1,14 @@
 -- The kinds of a kernel's parameters.
-use Rattle.std.proofs.Common.{◌≡◌, ℕ, zero, suc, ◌+◌, ◌<◌, Bool, true, false, List, [], ◌∷◌, ◌++◌, length, Option, None, Some, Ok, Err, refl, ap, sym, ◌∙◌, append_assoc, subst, inl, inr, ◌⊎◌, arith}
+use Rattle.std.proofs.Common.{◌≡◌, ℕ, ◌+◌, ◌<◌, List, [], ◌∷◌, ◌++◌, length, Option, None, Some, Ok, ap, sym, ◌∙◌, append_assoc, subst, inl, inr, ◌⊎◌, arith}
 use Rattle.std.specs.Prelude.{bytes_eq}
-use Rattle.std.specs.Coded.{Coded, Coded-set, coded_ℕ, coded_list, code_by, ×_prop}
 use Rattle.std.specs.List.{AllZip}
 use Rattle.std.proofs.lemmas.Bool.{cond_both}
 use Rattle.std.proofs.lemmas.List.{append-nil}
-use Rattle.std.proofs.Math.Logic.{∥∥₁_elim}
-use Rattle.semantics.specs.Core.{Site}
-use Rattle.semantics.specs.Word.{Kind, Int, Uint, Size}
-use Rattle.semantics.specs.Launch.{Kernel}
-use Rattle.texts.specs.Surface as surface
+use Rattle.semantics.specs.Word.{Kind}
 use Rattle.texts.specs.Surface.{Parameter, Buffer, Value}
-use Rattle.texts.specs.TypeFaults as checks
-use Rattle.texts.specs.Scope.{Devices, Scope, empty_scope, may_declare, may_name_kernel}
-use Rattle.texts.specs.Elaboration.{InKernel, declare_parameter, declare_parameters, elaborate_inside, elaborate, elaborate_all}
-use Rattle.texts.specs.LaunchFaults.{Cursor, Step, then}
-use Rattle.texts.specs.LaunchWords.{go_on, each}
-use Rattle.texts.specs.LaunchSums.{value_number, buffer_number}
-use Rattle.types.specs.Elaborated.{IsElaborated}
+use Rattle.launch_text.specs.LaunchFaults.{Cursor, Step, then}
+use Rattle.launch_text.specs.LaunchWords.{go_on, each}
+use Rattle.launch_text.specs.LaunchSums.{value_number, buffer_number}
 use Rattle.kernel_names.specs.Parameters.{value_kind, buffer_kind, onto, kinds}
 use Rattle.launch_text.proofs.Back.{then_back}
 

@@ -8,13 +8,13 @@ use Rattle.std.proofs.lemmas.Int.{ints}
 use Rattle.semantics.specs.Word.{Kind, word}
 use Rattle.semantics.specs.Launch.{Three}
 use Rattle.semantics.specs.Conditions.{Range}
-use Rattle.texts.specs.Numbers.{is_decimal_digit}
-use Rattle.texts.specs.Identifiers.{is_identifier}
+use Rattle.lines.specs.Bytes.{is_decimal_digit}
+use Rattle.lines.specs.Identifiers.{is_identifier}
 use Rattle.texts.specs.Surface.{Parameter, Buffer, Value}
-use Rattle.texts.specs.LaunchFaults.{Cursor, Step, cursor, expect}
-use Rattle.texts.specs.LaunchWords.{Conditions, due, due_blank, due_parameter, each}
-use Rattle.texts.specs.ConditionsReading.{CountRange, ArgumentRange, counts_meant, argument_meant, counts_between, counts_at, words_between, three, three_counts_at, groups_line, argument_at, argument_line, argument_due}
-use Rattle.texts.specs.ConditionsText.{range_text, AreCounts, AreOfKind, groups_text, argument_text, AreArgumentLines, no_argument, past_buffer, an_argument}
+use Rattle.launch_text.specs.LaunchFaults.{Cursor, Step, cursor, expect}
+use Rattle.launch_text.specs.LaunchWords.{Conditions, due, due_blank, due_parameter, each}
+use Rattle.launch_text.specs.ConditionsReading.{CountRange, ArgumentRange, counts_meant, argument_meant, counts_between, counts_at, words_between, three, three_counts_at, groups_line, argument_at, argument_line, argument_due}
+use Rattle.launch_text.specs.ConditionsText.{range_text, AreCounts, AreOfKind, groups_text, argument_text, AreArgumentLines, no_argument, past_buffer, an_argument}
 use Rattle.launch.proofs.Unmet.{le-met}
 use Rattle.launch_text.specs.Parameters.{AreNamed}
 use Rattle.launch_text.proofs.Forth.{natural_forth, word_forth, parameter_forth}

@@ -2,8 +2,8 @@
 use Rattle.std.proofs.Common.{◌≡◌, ℕ, ◌+◌, ◌<◌, ◌≤◌, List, [], ◌∷◌, ◌++◌, length, drop, get_or, map, Option, None, Some, Ok, refl, ap, sym, ◌∙◌}
 use Rattle.std.proofs.lemmas.List.{drop_more, drop_all}
 use Rattle.texts.specs.Surface as surface
-use Rattle.texts.specs.LaunchFaults.{Cursor, Step, then}
-use Rattle.texts.specs.LaunchWords.{go_on, each}
+use Rattle.launch_text.specs.LaunchFaults.{Cursor, Step, then}
+use Rattle.launch_text.specs.LaunchWords.{go_on, each}
 
 each_row : {A : Type 0} (line : List A → surface.Parameter → Option (Cursor → Step (A × Cursor))) (done : List A) (p : surface.Parameter) (ps : List surface.Parameter) (c : Cursor) → each line done (p ∷ ps) c ≡ go_on (line done p) done c (λ more d. each line more ps d)
 unfolding each

@@ -1,8 +1,8 @@
 -- Lines of one first word, one after another.
 use Rattle.std.proofs.Common.{◌≡◌, ℕ, zero, suc, ◌-◌, List, [], ◌∷◌, ◌++◌, true, false, Ok, refl, sub-one}
 use Rattle.std.specs.Prelude.{bytes_eq}
-use Rattle.texts.specs.LaunchFaults.{Cursor, Step, LimitPassed, refused, then}
-use Rattle.texts.specs.LaunchWords.{first_word, several}
+use Rattle.launch_text.specs.LaunchFaults.{Cursor, Step, LimitPassed, refused, then}
+use Rattle.launch_text.specs.LaunchWords.{first_word, several}
 
 module _ {A : Type 0} (keyword : List ℕ) (line : Cursor → Step (A × Cursor)) where
   pub several_over : (room : ℕ) (done : List A) (c : Cursor) → bytes_eq (first_word c.rest) keyword ≡ false → several keyword line room done c ≡ Ok (done, c)

@@ -9,15 +9,15 @@ use Rattle.std.proofs.lemmas.List.Sums.{sum_by-cons}
 use Rattle.semantics.specs.Word.{Kind, Word, word}
 use Rattle.semantics.specs.Launch as meaning
 use Rattle.semantics.specs.Launch.{Three}
-use Rattle.texts.specs.Numbers.{is_decimal_digit}
-use Rattle.texts.specs.Identifiers.{is_identifier}
+use Rattle.lines.specs.Bytes.{is_decimal_digit}
+use Rattle.lines.specs.Identifiers.{is_identifier}
 use Rattle.texts.specs.Surface.{Parameter, Buffer, Value}
 use Rattle.texts.specs.Spelling.{SpellsParameters}
-use Rattle.texts.specs.LaunchFaults.{Cursor, Step, cursor, then, expect}
-use Rattle.texts.specs.LaunchWords.{word_at, due_parameter, each}
-use Rattle.texts.specs.LaunchReading.{TypedLaunch, number, meant, groups_line, argument_line, argument_due, list_at, fill_at, words_at, most_words, words_of, buffer_line, buffer_due, given, launch_at, launch_limit, launch_of}
-use Rattle.texts.specs.LaunchText.{argument_text, fill_text}
-use Rattle.texts.specs.LaunchSpelling.{AreListed, no_word, a_word, AreContents, listed, filled, contents_text, counts_text, AreWordLines, no_argument, past_buffer, an_argument, AreBufferLines, no_buffer, past_value, a_buffer, AreLaunchLines, IsLaunchText}
+use Rattle.launch_text.specs.LaunchFaults.{Cursor, Step, cursor, then, expect}
+use Rattle.launch_text.specs.LaunchWords.{word_at, due_parameter, each}
+use Rattle.launch_text.specs.LaunchReading.{TypedLaunch, number, meant, groups_line, argument_line, argument_due, list_at, fill_at, words_at, most_words, words_of, buffer_line, buffer_due, given, launch_at, launch_limit, launch_of}
+use Rattle.launch_text.specs.LaunchText.{argument_text, fill_text}
+use Rattle.launch_text.specs.LaunchSpelling.{AreListed, no_word, a_word, AreContents, listed, filled, contents_text, counts_text, AreWordLines, no_argument, past_buffer, an_argument, AreBufferLines, no_buffer, past_value, a_buffer, AreLaunchLines, IsLaunchText}
 use Rattle.launch_text.specs.Parameters.{AreNamed}
 use Rattle.launch_text.proofs.Back.{same_back}
 use Rattle.launch_text.proofs.Fills.{map-filled}

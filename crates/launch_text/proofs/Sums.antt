@@ -3,8 +3,8 @@ use Rattle.std.proofs.Common.{◌≡◌, ℕ, zero, suc, ◌-◌, ◌<◌, List,
 use Rattle.std.specs.Prelude.{codes}
 use Rattle.semantics.specs.Conditions.{Summand}
 use Rattle.texts.specs.Surface.{Parameter}
-use Rattle.texts.specs.LaunchFaults.{Cursor, LimitPassed, refused, then, sees, past}
-use Rattle.texts.specs.LaunchSums.{term_at, sum_at}
+use Rattle.launch_text.specs.LaunchFaults.{Cursor, LimitPassed, refused, then, sees, past}
+use Rattle.launch_text.specs.LaunchSums.{term_at, sum_at}
 
 pub sum_step : (products : Bool) (ps : List Parameter) (room : ℕ) (terms : List Summand) (c : Cursor) → 0 < room → sum_at products ps room terms c ≡ then (term_at products ps c) (λ t. cond (sees (codes " + ") t.1) (sum_at products ps (room - 1) (terms ++ t.0 ∷ []) (past 3 t.1)) (Ok (terms ++ t.0 ∷ [], t.1)))
 unfolding sum_at

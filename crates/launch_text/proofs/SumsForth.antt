@@ -11,17 +11,17 @@ use Rattle.std.proofs.lemmas.Int.{ints}
 use Rattle.std.proofs.lemmas.Fmt.{decimal_nonempty}
 use Rattle.std.proofs.lemmas.Slice.Eq.{bytes_eq-Decides}
 use Rattle.semantics.specs.Conditions.{Factor, Summand}
-use Rattle.texts.specs.Numbers.{is_decimal_digit}
-use Rattle.texts.specs.Tokens.{is_letter, is_word_byte}
-use Rattle.texts.specs.Identifiers.{all_word_bytes, is_identifier}
-use Rattle.texts.specs.Lines.{is_integer}
+use Rattle.lines.specs.Bytes.{is_decimal_digit}
+use Rattle.lines.specs.Bytes.{is_letter, is_word_byte}
+use Rattle.lines.specs.Identifiers.{all_word_bytes, is_identifier}
+use Rattle.lines.specs.Lines.{is_integer}
 use Rattle.texts.specs.Surface.{Parameter, Buffer, Value}
-use Rattle.texts.specs.LaunchFaults.{cursor, found}
-use Rattle.texts.specs.LaunchWords.{factor_within, factor_at}
-use Rattle.texts.specs.LaunchSums.{value_number, argument_at, symbol_at, symbols_at, begins_number, term_at, sum_at}
-use Rattle.texts.specs.ConditionsText.{IsFactor, IsSymbol, groups_x, groups_y, groups_z, argument, IsMultiple, one_name, two_names, IsTerm, alone, number, product, IsSum, last, more, IsShortSum}
-use Rattle.texts.proofs.Fits.{both, begins}
-use Rattle.texts.proofs.Decimals.{digits_of_decimal}
+use Rattle.launch_text.specs.LaunchFaults.{cursor, found}
+use Rattle.launch_text.specs.LaunchWords.{factor_within, factor_at}
+use Rattle.launch_text.specs.LaunchSums.{value_number, argument_at, symbol_at, symbols_at, begins_number, term_at, sum_at}
+use Rattle.launch_text.specs.ConditionsText.{IsFactor, IsSymbol, groups_x, groups_y, groups_z, argument, IsMultiple, one_name, two_names, IsTerm, alone, number, product, IsSum, last, more, IsShortSum}
+use Rattle.lines.proofs.Fronts.{both, begins}
+use Rattle.lines.proofs.Decimals.{digits_of_decimal}
 use Rattle.launch_text.specs.Parameters.{AreNamed}
 use Rattle.launch_text.proofs.Forth.{number_forth, word_prefix, letter_in_word, name_forth}
 

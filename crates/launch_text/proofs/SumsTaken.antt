@@ -5,11 +5,11 @@ use Rattle.std.specs.Fmt.{signed_decimal}
 use Rattle.std.proofs.lemmas.Bool.{cond_both, and_parts}
 use Rattle.semantics.specs.Conditions.{Factor, ArgumentFactor, GroupsFactor, Summand, Constant, Product}
 use Rattle.texts.specs.Surface.{Parameter}
-use Rattle.texts.specs.LaunchFaults.{Cursor, Step, refused, then, Expected, UnknownName, sees, past}
-use Rattle.texts.specs.LaunchWords.{number_at, factor_within, factor_at, name_at, is_known}
-use Rattle.texts.specs.LaunchSums.{value_number, argument_found, argument_at, symbol_at, times, symbols_at, begins_number, term_at, sum_at}
-use Rattle.texts.specs.ConditionsText.{IsFactor, IsSymbol, groups_x, groups_y, groups_z, argument, IsMultiple, one_name, two_names, IsTerm, alone, number, product, IsSum, last, more, IsShortSum}
-use Rattle.texts.proofs.Fits.{begins}
+use Rattle.launch_text.specs.LaunchFaults.{Cursor, Step, refused, then, Expected, UnknownName, sees, past}
+use Rattle.launch_text.specs.LaunchWords.{number_at, factor_within, factor_at, name_at, is_known}
+use Rattle.launch_text.specs.LaunchSums.{value_number, argument_found, argument_at, symbol_at, times, symbols_at, begins_number, term_at, sum_at}
+use Rattle.launch_text.specs.ConditionsText.{IsFactor, IsSymbol, groups_x, groups_y, groups_z, argument, IsMultiple, one_name, two_names, IsTerm, alone, number, product, IsSum, last, more, IsShortSum}
+use Rattle.lines.proofs.Fronts.{begins}
 use Rattle.launch_text.proofs.Back.{then_back, same_back, found_back}
 use Rattle.launch_text.proofs.Taken.{number_took, factor_is, name_took, found_rest}
 

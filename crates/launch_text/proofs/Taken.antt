@@ -9,14 +9,14 @@ use Rattle.std.proofs.lemmas.Bool.Decides.{nat_tests}
 use Rattle.std.proofs.lemmas.List.{take-append-drop}
 use Rattle.std.proofs.lemmas.Slice.Eq.{bytes_eq-Decides}
 use Rattle.semantics.specs.Word.{Kind, Word, word, in_kind}
-use Rattle.texts.specs.Tokens.{is_word_byte}
-use Rattle.texts.specs.Lines.{NumberFault, NoDecimal, TooLarge, is_empty, integer_of}
+use Rattle.lines.specs.Bytes.{is_word_byte}
+use Rattle.lines.specs.Lines.{NumberFault, NoDecimal, TooLarge, is_empty, integer_of}
 use Rattle.texts.specs.Surface.{Parameter}
-use Rattle.texts.specs.LaunchFaults.{LaunchFault, Expected, MissingLine, UnknownName, Cursor, Step, refused, found, sees, past, expect, end_line}
-use Rattle.texts.specs.LaunchWords.{Form, number_length, number_found, number_at, natural_within, natural_at, word_within, word_at, factor_within, begins_name, name_at, is_known, parameter_at, is_in_word, first_word, is_keyword, due, due_blank, due_parameter, head_line, end_text}
-use Rattle.texts.specs.ConditionsText.{IsFactor}
-use Rattle.texts.proofs.Fits.{begins}
-use Rattle.texts.proofs.Decimals.{integer_back}
+use Rattle.launch_text.specs.LaunchFaults.{LaunchFault, Expected, MissingLine, UnknownName, Cursor, Step, refused, found, sees, past, expect, end_line}
+use Rattle.launch_text.specs.LaunchWords.{Form, number_length, number_found, number_at, natural_within, natural_at, word_within, word_at, factor_within, begins_name, name_at, is_known, parameter_at, is_in_word, first_word, is_keyword, due, due_blank, due_parameter, head_line, end_text}
+use Rattle.launch_text.specs.ConditionsText.{IsFactor}
+use Rattle.lines.proofs.Fronts.{begins}
+use Rattle.lines.proofs.Decimals.{integer_back}
 use Rattle.launch_text.proofs.Back.{then_back, same_back, when_back, unless_back, found_back}
 
 pub expect_took : (front : List ℕ) (c d : Cursor) → expect front c ≡ Ok d → c.rest ≡ front ++ d.rest

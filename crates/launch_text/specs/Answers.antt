@@ -1,7 +1,7 @@
 -- What the code's answers stand for.
 use Rattle.std.specs.Prelude.{◌≡◌, ℕ, List, Option, None, Some, Result, Ok, Err}
 use denote.Ref.{Bor}
-use Rattle.texts.specs.LaunchFaults as texts
+use Rattle.launch_text.specs.LaunchFaults as texts
 use Rattle.launch_text.specs.declared.error.LaunchFault.{LaunchFault}
 use Rattle.launch_text.specs.declared.error.LaunchFault.TheVariants as faults
 use Rattle.launch_text.specs.declared.error.LaunchTextError.{LaunchTextError}

@@ -5,7 +5,7 @@ use Rattle.std.specs.List.{AllZip}
 use Rattle.semantics.specs.Word.{Kind}
 use Rattle.semantics.specs.Launch.{Kernel, IsCount, IsArgument}
 use Rattle.semantics.specs.Conditions.{ConditionsFit}
-use Rattle.texts.specs.ConditionsReading.{CountRange, ArgumentRange, Length, Lined, meant}
+use Rattle.launch_text.specs.ConditionsReading.{CountRange, ArgumentRange, Length, Lined, meant}
 
 abbrev pub AreCounts : CountRange → Type 0
 AreCounts r = IsCount r.low × IsCount r.high

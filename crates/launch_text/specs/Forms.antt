@@ -1,5 +1,5 @@
 -- The code's two texts.
-use Rattle.texts.specs.LaunchWords as words
+use Rattle.launch_text.specs.LaunchWords as words
 use Rattle.launch_text.specs.declared.keyword.Form.{Form}
 use Rattle.launch_text.specs.declared.keyword.Form.TheVariants as forms
 

@@ -1,5 +1,14 @@
 pub mod Answers
+pub mod ConditionsReading
+pub mod ConditionsText
 pub mod Fits
 pub mod Forms
+pub mod HeadReading
+pub mod LaunchFaults
+pub mod LaunchReading
+pub mod LaunchSpelling
+pub mod LaunchSums
+pub mod LaunchText
+pub mod LaunchWords
 pub mod Parameters
 pub mod View

@@ -3,11 +3,11 @@ use Rattle.std.specs.Prelude.{◌≡◌, ◌≤◌, ◌<◌, ◌^◌, true, List
 use Rattle.std.specs.List.{AllZip}
 use Rattle.semantics.specs.Word.{Kind, Word}
 use Rattle.semantics.specs.Launch.{IsCount, IsArgument}
-use Rattle.texts.specs.Identifiers.{is_identifier}
+use Rattle.lines.specs.Identifiers.{is_identifier}
 use Rattle.texts.specs.Surface.{Parameter}
 use Rattle.kernel_names.specs.Parameters.{value_kind, buffer_kind, kinds}
-use Rattle.texts.specs.LaunchWords.{name_of}
-use Rattle.texts.specs.LaunchReading.{TypedLaunch, most_words, words_of}
+use Rattle.launch_text.specs.LaunchWords.{name_of}
+use Rattle.launch_text.specs.LaunchReading.{TypedLaunch, most_words, words_of}
 
 -- names that the texts can spell
 abbrev pub AreNamed : List Parameter → Type 0

@@ -1,10 +1,15 @@
 -- The code's conditions and launches as a text says them: each condition with its line, each word with its kind.
-use Rattle.std.specs.Prelude.{ℕ, List, map, Vec}
+use Rattle.std.specs.Prelude.{ℕ, List, map, slice_index, Vec}
+use Rattle.std.specs.Option.{option_map}
 use Rattle.std.specs.declared.alloc.Global.{Global}
 use Rattle.semantics.specs.Launch as launches
 use Rattle.semantics.specs.Word as semantics
-use Rattle.texts.specs.ConditionsReading as conditions
-use Rattle.texts.specs.LaunchReading as given
+use Rattle.launch_text.specs.Answers.{bytes}
+use Rattle.launch_text.specs.ConditionsReading as conditions
+use Rattle.launch_text.specs.HeadReading as heads
+use Rattle.launch_text.specs.LaunchReading as given
+use Rattle.launch_text.specs.declared.head.Head.{Head}
+use Rattle.launch_text.specs.declared.head.LocalCount.{LocalCount}
 use Rattle.words.specs.View.{kind, word}
 use Rattle.words.specs.declared.word.Word.{Word}
 use Rattle.launch.specs.View as view
@@ -62,3 +67,15 @@ given_counts c = given.counts c.x c.y c.z
 
 abbrev pub launch : Launch → given.TypedLaunch
 launch l = given.given (given_counts l.groups) (words l.arguments) (buffers l.buffers.words) l.fill
+
+abbrev pub sizes : List ℕ → launches.Three ℕ
+sizes s = heads.sizes_of (slice_index s 0) (slice_index s 1) (slice_index s 2)
+
+abbrev pub local : LocalCount → heads.LocalCount
+local l = heads.local_of l.name.now l.count
+
+abbrev pub locals : Vec LocalCount Global → List heads.LocalCount
+locals ls = map local ls.items
+
+abbrev pub head : Head → heads.Head
+head h = heads.head_with (option_map bytes h.kernel) (option_map sizes h.sizes) (locals h.locals)

@@ -1,10 +1,10 @@
 //! Conditions of their text.
 
-ghost use Rattle.std.specs.Prelude.{◌≡◌, ◌≤◌, ◌&&◌, true, false, codes, map, length, MatchOption};
+ghost use Rattle.std.specs.Prelude.{◌≡◌, ◌≤◌, ◌&&◌, true, false, map, length, MatchOption};
 ghost use Rattle.words.specs.View.{kind as kind_of, value_of};
 ghost use Rattle.texts.specs.Declarations.{most_names};
-ghost use Rattle.texts.specs.LaunchFaults.{sees, past};
-ghost use Rattle.texts.specs.ConditionsReading as meaning;
+ghost use Rattle.launch_text.specs.LaunchFaults.{sees, past};
+ghost use Rattle.launch_text.specs.ConditionsReading as meaning;
 ghost use Rattle.syntax.specs.View.{parameter as parameter_of};
 ghost use Rattle.launch_text.specs.Answers.{cursor, read, same, Gives};
 ghost use Rattle.launch_text.specs.View as view;
@@ -13,6 +13,7 @@ use crate::contents::content_lines;
 use crate::cursor::Cursor;
 use crate::error::{LaunchFault, LaunchTextError};
 use crate::groups::groups_line;
+use crate::head::past_head;
 use crate::keyword::{Form, begins, due, due_blank, due_parameter, end_text};
 use crate::number::{natural, word};
 use crate::sum::sum;
@@ -28,7 +29,7 @@ const MOST_REQUIREMENTS: usize = 16;
 
 const MOST_STEPS: u64 = 1_000_000_000_000;
 
-#[tactic(auto, unfolding(texts::specs::ConditionsReading::argument_at))]
+#[tactic(auto, unfolding(crate::specs::ConditionsReading::argument_at))]
 fn argument(at: Cursor<'_>, kind: Kind) -> Result<(ArgumentRange, Cursor<'_>), LaunchTextError>
     ensures { Gives (read view.argument) result (meaning.argument_at (kind_of kind) (cursor at.entry)) }
 {
@@ -45,7 +46,7 @@ fn argument(at: Cursor<'_>, kind: Kind) -> Result<(ArgumentRange, Cursor<'_>), L
     Ok((range, after))
 }
 
-#[tactic(auto, unfolding(texts::specs::ConditionsReading::argument_line))]
+#[tactic(auto, unfolding(crate::specs::ConditionsReading::argument_line))]
 fn argument_line<'a>(
     at: Cursor<'a>,
     parameters: &[Parameter],
@@ -80,7 +81,7 @@ fn argument_lines<'a>(
     Ok((ranges, rest))
 }
 
-#[tactic(auto, unfolding(texts::specs::ConditionsReading::length_line))]
+#[tactic(auto, unfolding(crate::specs::ConditionsReading::length_line))]
 fn length_line<'a>(
     alloc: Global,
     at: Cursor<'a>,
@@ -126,7 +127,7 @@ fn length_lines<'a>(
     Ok((lengths, rest))
 }
 
-#[tactic(auto, unfolding(texts::specs::ConditionsReading::requirement_line))]
+#[tactic(auto, unfolding(crate::specs::ConditionsReading::requirement_line))]
 fn requirement_line<'a>(
     alloc: Global,
     at: Cursor<'a>,
@@ -172,7 +173,7 @@ fn requirement_lines<'a>(
     Ok((requirements, rest))
 }
 
-#[tactic(auto, unfolding(texts::specs::ConditionsReading::budget_line))]
+#[tactic(auto, unfolding(crate::specs::ConditionsReading::budget_line))]
 fn budget_line(at: Cursor<'_>) -> Result<(u64, Cursor<'_>), LaunchTextError>
     ensures { Gives (read same) result (meaning.budget_line (cursor at.entry)) }
 {
@@ -181,40 +182,60 @@ fn budget_line(at: Cursor<'_>) -> Result<(u64, Cursor<'_>), LaunchTextError>
     Ok((budget, after.end_line()?))
 }
 
-/// The cursor past the mark of version 2, where the text may be of that version.
-fn strip_two(at: Cursor<'_>, may_be_two: bool) -> Option<Cursor<'_>>
-    ensures { MatchOption result ((may_be_two && sees (codes " 2") (cursor at.entry)) ≡ false) (λ after. ((may_be_two && sees (codes " 2") (cursor at.entry)) ≡ true) × (cursor after ≡ past 2 (cursor at.entry))) }
+/// The cursor past the mark of version 2 or 3, where the text may be of that version.
+fn strip_mark<'a>(at: Cursor<'a>, mark: &str, may_be_two: bool) -> Option<Cursor<'a>>
+    ensures { MatchOption result ((may_be_two && sees mark.now (cursor at.entry)) ≡ false) (λ after. ((may_be_two && sees mark.now (cursor at.entry)) ≡ true) × (cursor after ≡ past (length mark.now) (cursor at.entry))) }
 {
     if may_be_two {
-        return at.strip(" 2");
+        return at.strip(mark);
     }
     None
 }
 
 /// The version of the text: whether it is 2.
-#[tactic(auto, unfolding(texts::specs::ConditionsReading::version_at))]
+#[tactic(auto, unfolding(crate::specs::ConditionsReading::version_at))]
 fn version(at: Cursor<'_>, may_be_two: bool) -> Result<(bool, Cursor<'_>), LaunchTextError>
     ensures { Gives (read same) result (meaning.version_at may_be_two (cursor at.entry)) }
 {
-    if let Some(after) = strip_two(at, may_be_two) {
+    if let Some(after) = strip_mark(at, " 2", may_be_two) {
         return Ok((true, after));
     }
     let after = at.expect(" 1")?;
     Ok((false, after))
 }
 
-/// The first line.
-#[tactic(auto, unfolding(texts::specs::ConditionsReading::version_line))]
-fn version_line(at: Cursor<'_>, may_be_two: bool) -> Result<(bool, Cursor<'_>), LaunchTextError>
-    ensures { Gives (read same) result (meaning.version_line may_be_two (cursor at.entry)) }
+/// The first line behind its first word, in texts of versions 1 and 2.
+#[tactic(auto, unfolding(crate::specs::ConditionsReading::numbered_line))]
+fn numbered_line(at: Cursor<'_>, may_be_two: bool) -> Result<(bool, Cursor<'_>), LaunchTextError>
+    ensures { Gives (read same) result (meaning.numbered_line may_be_two (cursor at.entry)) }
 {
-    let after = due(at, Form::Conditions, "conditions")?;
-    let (is_two, after) = version(after, may_be_two)?;
+    let (is_two, after) = version(at, may_be_two)?;
     let after = after.end_line()?;
     Ok((is_two, after))
 }
 
-#[tactic(auto, unfolding(texts::specs::ConditionsReading::conditions_at))]
+/// The end of the first line of a text of version 3, and its head, which is passed over.
+#[tactic(auto, unfolding(crate::specs::ConditionsReading::headed_line))]
+fn headed_line(at: Cursor<'_>) -> Result<(bool, Cursor<'_>), LaunchTextError>
+    ensures { Gives (read same) result (meaning.headed_line (cursor at.entry)) }
+{
+    let after = past_head(at.end_line()?)?;
+    Ok((true, after))
+}
+
+/// The first line, and the head behind it.
+#[tactic(auto, unfolding(crate::specs::ConditionsReading::version_line))]
+fn version_line(at: Cursor<'_>, may_be_two: bool) -> Result<(bool, Cursor<'_>), LaunchTextError>
+    ensures { Gives (read same) result (meaning.version_line may_be_two (cursor at.entry)) }
+{
+    let after = due(at, Form::Conditions, "conditions")?;
+    match strip_mark(after, " 3", may_be_two) {
+        Some(behind) => headed_line(behind),
+        None => numbered_line(after, may_be_two),
+    }
+}
+
+#[tactic(auto, unfolding(crate::specs::ConditionsReading::conditions_at))]
 fn conditions<'a>(
     alloc: Global,
     at: Cursor<'a>,
@@ -243,7 +264,7 @@ fn conditions<'a>(
     })
 }
 
-/// The conditions of a text, for a kernel of these parameters; of version 2 only where it may be.
+/// The conditions of a text, for a kernel of these parameters; of version 2 or 3 only where it may be.
 pub fn conditions_of(
     alloc: Global,
     parameters: &[Parameter],

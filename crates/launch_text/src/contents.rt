@@ -2,9 +2,9 @@
 
 ghost use Rattle.std.specs.Prelude.{◌≡◌, ◌≤◌, [], codes, map, length};
 ghost use Rattle.texts.specs.Declarations.{most_names};
-ghost use Rattle.texts.specs.LaunchWords.{several};
-ghost use Rattle.texts.specs.LaunchSums as sums;
-ghost use Rattle.texts.specs.ConditionsReading as meaning;
+ghost use Rattle.launch_text.specs.LaunchWords.{several};
+ghost use Rattle.launch_text.specs.LaunchSums as sums;
+ghost use Rattle.launch_text.specs.ConditionsReading as meaning;
 ghost use Rattle.syntax.specs.View.{parameter as parameter_of};
 ghost use Rattle.launch_text.specs.Answers.{cursor, read, same, Gives};
 ghost use Rattle.launch_text.specs.View as view;
@@ -37,7 +37,7 @@ fn buffer_number(parameters: &[Parameter], word: &[u8]) -> Option<u32>
     None
 }
 
-#[tactic(auto, unfolding(texts::specs::LaunchSums::buffer_at))]
+#[tactic(auto, unfolding(crate::specs::LaunchSums::buffer_at))]
 fn buffer<'a>(
     at: Cursor<'a>,
     parameters: &[Parameter],
@@ -56,7 +56,7 @@ fn buffer<'a>(
 }
 
 /// Whether the sum is the upper end.
-#[tactic(auto, unfolding(texts::specs::ConditionsReading::end_at))]
+#[tactic(auto, unfolding(crate::specs::ConditionsReading::end_at))]
 fn is_upper(at: Cursor<'_>) -> Result<(bool, Cursor<'_>), LaunchTextError>
     ensures { Gives (read same) result (meaning.end_at (cursor at.entry)) }
 {
@@ -67,7 +67,7 @@ fn is_upper(at: Cursor<'_>) -> Result<(bool, Cursor<'_>), LaunchTextError>
     Ok((false, after))
 }
 
-#[tactic(auto, unfolding(texts::specs::ConditionsReading::content_line))]
+#[tactic(auto, unfolding(crate::specs::ConditionsReading::content_line))]
 fn content_line<'a>(
     alloc: Global,
     at: Cursor<'a>,
@@ -113,7 +113,7 @@ fn several_lines<'a>(
 }
 
 /// The lines that say what buffers hold, of which texts of version 1 have none.
-#[tactic(auto, unfolding(texts::specs::ConditionsReading::content_lines))]
+#[tactic(auto, unfolding(crate::specs::ConditionsReading::content_lines))]
 pub fn content_lines<'a>(
     alloc: Global,
     at: Cursor<'a>,

@@ -14,7 +14,7 @@ pub struct Cursor<'a> {
 
 impl<'a> Cursor<'a> {
     ghost use Rattle.std.specs.Prelude.{◌≡◌, ◌+◌, ◌<◌, ◌≤◌, ◌^◌, length, true, false, MatchOption};
-    ghost use Rattle.texts.specs.LaunchFaults as meaning;
+    ghost use Rattle.launch_text.specs.LaunchFaults as meaning;
     ghost use Rattle.launch_text.specs.declared.error.LaunchTextError.TheVariants as errors;
     ghost use Rattle.launch_text.specs.Answers.{cursor, Gives};
 
@@ -53,7 +53,7 @@ impl<'a> Cursor<'a> {
     }
 
     /// The cursor behind these bytes; a fault where they do not stand at the front.
-    #[tactic(auto, unfolding(texts::specs::LaunchFaults::expect))]
+    #[tactic(auto, unfolding(crate::specs::LaunchFaults::expect))]
     pub fn expect(self, front: &str) -> Result<Cursor<'a>, LaunchTextError>
         ensures { Gives cursor result (meaning.expect front.now (cursor self.entry)) }
     {
@@ -64,7 +64,7 @@ impl<'a> Cursor<'a> {
     }
 
     /// The cursor behind the line's end; a fault where that does not stand at the front.
-    #[tactic(auto, unfolding(texts::specs::LaunchFaults::end_line))]
+    #[tactic(auto, unfolding(crate::specs::LaunchFaults::end_line))]
     pub fn end_line(self) -> Result<Cursor<'a>, LaunchTextError>
         ensures { Gives cursor result (meaning.end_line (cursor self.entry)) }
     {

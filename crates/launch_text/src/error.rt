@@ -16,7 +16,7 @@ pub enum LaunchFault {
 }
 
 impl LaunchFault {
-    ghost use Rattle.texts.specs.LaunchFaults.{launch_fault_number};
+    ghost use Rattle.launch_text.specs.LaunchFaults.{launch_fault_number};
     ghost use Rattle.launch_text.specs.Answers.{fault};
 
     /// The number under which the fault is printed.

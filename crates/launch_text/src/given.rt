@@ -2,7 +2,7 @@
 
 ghost use Rattle.std.specs.Prelude.{◌≡◌, map, replicate, IfOk};
 ghost use Rattle.words.specs.View.{kind as kind_of, word as word_seen};
-ghost use Rattle.texts.specs.LaunchReading as meaning;
+ghost use Rattle.launch_text.specs.LaunchReading as meaning;
 ghost use Rattle.syntax.specs.View.{parameter as parameter_of};
 ghost use Rattle.launch_text.specs.Answers.{cursor, read, Gives};
 ghost use Rattle.launch_text.specs.View as view;
@@ -16,7 +16,7 @@ use syntax::tree::Parameter;
 use words::{Kind, Word};
 
 /// The line of the value parameter that is due.
-#[tactic(auto, unfolding(texts::specs::LaunchReading::argument_line))]
+#[tactic(auto, unfolding(crate::specs::LaunchReading::argument_line))]
 pub fn argument_line<'a>(
     at: Cursor<'a>,
     parameters: &[Parameter],
@@ -38,7 +38,7 @@ fn filled(alloc: Global, word: Word, count: usize) -> Result<Vec<Word>, AllocErr
 }
 
 /// Reads `fill N W` at the cursor: so many times one word of the kind, at most as many as there is room for; a fault for any other text.
-#[tactic(auto, unfolding(texts::specs::LaunchReading::fill_at))]
+#[tactic(auto, unfolding(crate::specs::LaunchReading::fill_at))]
 pub fn fill<'a>(
     alloc: Global,
     at: Cursor<'a>,

@@ -1,7 +1,7 @@
 //! The line of groups of a conditions text.
 
 ghost use Rattle.std.specs.Prelude.{◌≡◌, ◌*◌};
-ghost use Rattle.texts.specs.ConditionsReading as meaning;
+ghost use Rattle.launch_text.specs.ConditionsReading as meaning;
 ghost use Rattle.launch_text.specs.Answers.{cursor, read, Gives};
 ghost use Rattle.launch_text.specs.View as view;
 
@@ -15,7 +15,7 @@ const MOST_GROUPS: u64 = 65_536;
 
 const MOST_GROUPS_TOGETHER: u64 = 1_048_576;
 
-#[tactic(auto, unfolding(texts::specs::ConditionsReading::counts_at))]
+#[tactic(auto, unfolding(crate::specs::ConditionsReading::counts_at))]
 fn counts(at: Cursor<'_>) -> Result<(CountRange, Cursor<'_>), LaunchTextError>
     ensures { Gives (read view.counts) result (meaning.counts_at (cursor at.entry)) }
 {
@@ -31,7 +31,7 @@ fn counts(at: Cursor<'_>) -> Result<(CountRange, Cursor<'_>), LaunchTextError>
     Ok((range, after))
 }
 
-#[tactic(auto, unfolding(texts::specs::ConditionsReading::three_counts_at))]
+#[tactic(auto, unfolding(crate::specs::ConditionsReading::three_counts_at))]
 fn three_counts(at: Cursor<'_>) -> Result<(CountRanges, Cursor<'_>), LaunchTextError>
     ensures { Gives (read view.three_counts) result (meaning.three_counts_at (cursor at.entry)) }
 {
@@ -49,7 +49,7 @@ fn most_groups(x: CountRange, y: CountRange, z: CountRange) -> u64
 }
 
 /// The line of the counts of groups.
-#[tactic(auto, unfolding(texts::specs::ConditionsReading::groups_line))]
+#[tactic(auto, unfolding(crate::specs::ConditionsReading::groups_line))]
 pub fn groups_line(at: Cursor<'_>) -> Result<(CountRanges, Cursor<'_>), LaunchTextError>
     ensures { Gives (read view.three_counts) result (meaning.groups_line (cursor at.entry)) }
 {

@@ -3,7 +3,7 @@
 ghost use Rattle.std.specs.Prelude.{◌≡◌, ◌≤◌, length, map};
 ghost use Rattle.std.specs.List.{prefix_len};
 ghost use Rattle.std.specs.Str.{bytes_eq};
-ghost use Rattle.texts.specs.LaunchWords as meaning;
+ghost use Rattle.launch_text.specs.LaunchWords as meaning;
 ghost use Rattle.syntax.specs.View.{parameter as parameter_of};
 ghost use Rattle.launch_text.specs.Answers.{cursor, same, Gives};
 ghost use Rattle.launch_text.specs.Forms.{form as form_of};
@@ -75,7 +75,7 @@ pub fn begins(at: Cursor<'_>, keyword: &str) -> bool
 }
 
 /// The cursor past the first word of the line that is due; a fault where that line is missing.
-#[tactic(auto, unfolding(texts::specs::LaunchWords::due))]
+#[tactic(auto, unfolding(crate::specs::LaunchWords::due))]
 pub fn due<'a>(at: Cursor<'a>, form: Form, keyword: &str) -> Result<Cursor<'a>, LaunchTextError>
     ensures { Gives cursor result (meaning.due (form_of form) keyword.now (cursor at.entry)) }
 {
@@ -93,7 +93,7 @@ pub fn due<'a>(at: Cursor<'a>, form: Form, keyword: &str) -> Result<Cursor<'a>, 
 }
 
 /// The cursor past the first word of the line that is due, and a blank; a fault where these do not stand there.
-#[tactic(auto, unfolding(texts::specs::LaunchWords::due_blank))]
+#[tactic(auto, unfolding(crate::specs::LaunchWords::due_blank))]
 pub fn due_blank<'a>(
     at: Cursor<'a>,
     form: Form,
@@ -105,7 +105,7 @@ pub fn due_blank<'a>(
 }
 
 /// The cursor past the first line, which is the form's keyword and the version 1; a fault for any other line.
-#[tactic(auto, unfolding(texts::specs::LaunchWords::head_line))]
+#[tactic(auto, unfolding(crate::specs::LaunchWords::head_line))]
 pub fn head_line<'a>(
     at: Cursor<'a>,
     form: Form,
@@ -117,7 +117,7 @@ pub fn head_line<'a>(
 }
 
 /// The cursor past the name of the parameter whose line is due, and a blank; a fault where these do not stand there.
-#[tactic(auto, unfolding(texts::specs::LaunchWords::due_parameter))]
+#[tactic(auto, unfolding(crate::specs::LaunchWords::due_parameter))]
 pub fn due_parameter<'a>(
     at: Cursor<'a>,
     form: Form,
@@ -132,7 +132,7 @@ pub fn due_parameter<'a>(
 }
 
 /// Fails where the cursor is not at the text's end.
-#[tactic(auto, unfolding(texts::specs::LaunchWords::end_text))]
+#[tactic(auto, unfolding(crate::specs::LaunchWords::end_text))]
 pub fn end_text(at: Cursor<'_>) -> Result<(), LaunchTextError>
     ensures { Gives same result (meaning.end_text (cursor at.entry)) }
 {

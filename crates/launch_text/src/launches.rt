@@ -2,7 +2,7 @@
 
 ghost use Rattle.std.specs.Prelude.{◌≡◌, ◌<◌, ◌^◌, [], map, IfOk};
 ghost use Rattle.words.specs.View.{kind as kind_of};
-ghost use Rattle.texts.specs.LaunchReading as meaning;
+ghost use Rattle.launch_text.specs.LaunchReading as meaning;
 ghost use Rattle.syntax.specs.View.{parameter as parameter_of};
 ghost use Rattle.launch_text.specs.Answers.{cursor, read, same, Gives};
 ghost use Rattle.launch_text.specs.View as view;
@@ -27,7 +27,7 @@ const MOST_GROUPS: u64 = 65_536;
 
 const MOST_FILL: u64 = 2_147_483_647;
 
-#[tactic(auto, unfolding(texts::specs::LaunchReading::groups_line))]
+#[tactic(auto, unfolding(crate::specs::LaunchReading::groups_line))]
 fn groups_line(at: Cursor<'_>) -> Result<(Counts, Cursor<'_>), LaunchTextError>
     ensures { Gives (read view.given_counts) result (meaning.groups_line (cursor at.entry)) }
 {
@@ -88,7 +88,7 @@ fn list<'a>(
     Ok((words, rest))
 }
 
-#[tactic(auto, unfolding(texts::specs::LaunchReading::words_at))]
+#[tactic(auto, unfolding(crate::specs::LaunchReading::words_at))]
 fn words<'a>(
     alloc: Global,
     at: Cursor<'a>,
@@ -103,7 +103,7 @@ fn words<'a>(
     }
 }
 
-#[tactic(auto, unfolding(texts::specs::LaunchReading::buffer_line))]
+#[tactic(auto, unfolding(crate::specs::LaunchReading::buffer_line))]
 fn buffer_line<'a>(
     alloc: Global,
     at: Cursor<'a>,
@@ -142,7 +142,7 @@ fn buffer_lines<'a>(
     Ok((buffers, rest))
 }
 
-#[tactic(auto, unfolding(texts::specs::LaunchReading::fill_line))]
+#[tactic(auto, unfolding(crate::specs::LaunchReading::fill_line))]
 fn fill_line(at: Cursor<'_>) -> Result<(u64, Cursor<'_>), LaunchTextError>
     ensures value { Gives (read same) result (meaning.fill_line (cursor at.entry)) }
     ensures fits { IfOk result (λ r. r.0 < 2 ^ 31) }
@@ -152,7 +152,7 @@ fn fill_line(at: Cursor<'_>) -> Result<(u64, Cursor<'_>), LaunchTextError>
     Ok((fill, after.end_line()?))
 }
 
-#[tactic(auto, unfolding(texts::specs::LaunchReading::launch_at))]
+#[tactic(auto, unfolding(crate::specs::LaunchReading::launch_at))]
 fn launch<'a>(
     alloc: Global,
     at: Cursor<'a>,

@@ -4,12 +4,12 @@ ghost use Rattle.std.specs.Prelude.{◌≡◌, ◌≤◌, ℕ, List, length, Boo
 ghost use Rattle.std.specs.List.{starts_with};
 ghost use Rattle.texts.specs.Surface.{Parameter};
 ghost use Rattle.texts.specs.Spelling.{SpellsParameters};
-ghost use Rattle.texts.specs.ConditionsReading.{Lined, meant, conditions_of};
-ghost use Rattle.texts.specs.ConditionsText.{IsConditionsText};
-ghost use Rattle.texts.specs.LaunchReading as launches;
-ghost use Rattle.texts.specs.LaunchReading.{TypedLaunch, launch_limit, launch_of};
-ghost use Rattle.texts.specs.LaunchSpelling.{IsLaunchText};
-ghost use Rattle.texts.specs.LaunchText.{launch_text};
+ghost use Rattle.launch_text.specs.ConditionsReading.{Lined, meant, conditions_of, head_of};
+ghost use Rattle.launch_text.specs.ConditionsText.{IsConditionsText, head_in};
+ghost use Rattle.launch_text.specs.LaunchReading as launches;
+ghost use Rattle.launch_text.specs.LaunchReading.{TypedLaunch, launch_limit, launch_of};
+ghost use Rattle.launch_text.specs.LaunchSpelling.{IsLaunchText};
+ghost use Rattle.launch_text.specs.LaunchText.{launch_text};
 ghost use Rattle.launch_text.specs.Parameters.{IsGiven};
 ghost use Rattle.semantics.specs.Conditions as meaning;
 ghost use Rattle.semantics.specs.Launch.{Kernel, Launch, Fits};
@@ -43,9 +43,14 @@ pub fn a_conditions_text_says_one_thing()
     ensures { (may_be_two : Bool) (ps : List Parameter) (text : List ℕ) (c d : meaning.Conditions) → SpellsParameters ps → IsConditionsText may_be_two ps text c → IsConditionsText may_be_two ps text d → c ≡ d }
 {}
 
-/// Of a text that does not begin as one of version 2 the same is read, whether it may be of that version or not.
+/// Of a text that begins neither as one of version 2 nor as one of version 3 the same is read, whether it may be of these versions or not.
 pub fn texts_of_version_1_are_read_alike()
-    ensures { (ps : List Parameter) (text : List ℕ) → starts_with nat_eq text (codes "conditions 2") ≡ false → conditions_of true ps text ≡ conditions_of false ps text }
+    ensures { (ps : List Parameter) (text : List ℕ) → (starts_with nat_eq text (codes "conditions 2") ≡ false) × (starts_with nat_eq text (codes "conditions 3") ≡ false) → conditions_of true ps text ≡ conditions_of false ps text }
+{}
+
+/// A text that says conditions has the head with which it opens, and none in versions 1 and 2.
+pub fn a_head_is_read_of_its_text()
+    ensures { (may_be_two : Bool) (ps : List Parameter) (text : List ℕ) (c : meaning.Conditions) (t : IsConditionsText may_be_two ps text c) → head_of text ≡ Ok (head_in t.lines.opens) }
 {}
 
 /// If the reader reads a launch of a text, it is what the text says, case by case.

@@ -1,5 +1,5 @@
 //! Section: Launch. Promises exactly the conditions, or the launch, that a text says of a kernel, case by case, both ways, and exactly the
-//! text of buffers; stands on `types`, `launch` and `lines`.
+//! text of buffers; stands on `typed_kernels`, `launch` and `lines`.
 //!
 //! The texts that say launch conditions and launches, read for a kernel from the left: first words, names, numbers and sums, then lines. A
 //! reading gives exactly what the text says, or its first fault with its line; what is read fits the kernel. `laws`: what is read is what
@@ -13,6 +13,7 @@ pub mod cursor;
 pub mod error;
 pub mod given;
 pub mod groups;
+pub mod head;
 pub mod keyword;
 mod launches;
 pub mod laws;

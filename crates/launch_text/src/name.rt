@@ -3,8 +3,8 @@
 ghost use Rattle.std.specs.Prelude.{◌≡◌, ◌≤◌, length, map};
 ghost use Rattle.std.specs.List.{prefix_len};
 ghost use Rattle.std.specs.Str.{bytes_eq};
-ghost use Rattle.texts.specs.Tokens.{is_letter, is_word_byte};
-ghost use Rattle.texts.specs.LaunchWords as meaning;
+ghost use Rattle.lines.specs.Bytes.{is_letter, is_word_byte};
+ghost use Rattle.launch_text.specs.LaunchWords as meaning;
 ghost use Rattle.syntax.specs.View.{parameter as parameter_of};
 ghost use Rattle.launch_text.specs.Answers.{cursor, read, bytes, Gives};
 
@@ -46,7 +46,7 @@ fn name_length(bytes: &[u8]) -> usize
 }
 
 /// Reads a name at the cursor; a fault where no name begins there.
-#[tactic(auto, unfolding(texts::specs::LaunchWords::name_at))]
+#[tactic(auto, unfolding(crate::specs::LaunchWords::name_at))]
 pub fn name<'a>(at: Cursor<'a>) -> Result<(&'a [u8], Cursor<'a>), LaunchTextError>
     ensures { Gives (read bytes) result (meaning.name_at (cursor at.entry)) }
 {
@@ -80,7 +80,7 @@ pub fn is_known(parameters: &[Parameter], word: &[u8]) -> bool
 }
 
 /// The name of the parameter that is due.
-#[tactic(auto, unfolding(texts::specs::LaunchWords::parameter_at))]
+#[tactic(auto, unfolding(crate::specs::LaunchWords::parameter_at))]
 pub fn parameter<'a>(
     at: Cursor<'a>,
     parameters: &[Parameter],

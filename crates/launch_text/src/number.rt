@@ -5,8 +5,8 @@ ghost use Rattle.std.specs.Option.{option_map};
 ghost use Rattle.std.specs.List.{prefix_len};
 ghost use Rattle.words.specs.View.{kind as kind_of, word as word_seen};
 ghost use Rattle.launch.specs.Numbers.{number as number_seen};
-ghost use Rattle.texts.specs.Numbers.{is_decimal_digit};
-ghost use Rattle.texts.specs.LaunchWords as meaning;
+ghost use Rattle.lines.specs.Bytes.{is_decimal_digit};
+ghost use Rattle.launch_text.specs.LaunchWords as meaning;
 ghost use Rattle.launch_text.specs.Answers.{cursor, read, same, Gives};
 
 use crate::cursor::Cursor;
@@ -37,7 +37,7 @@ fn number_length(bytes: &[u8]) -> usize
     digits_length(bytes)
 }
 
-#[tactic(auto, unfolding(texts::specs::LaunchWords::number_at))]
+#[tactic(auto, unfolding(crate::specs::LaunchWords::number_at))]
 fn number(at: Cursor<'_>) -> Result<(i64, Cursor<'_>), LaunchTextError>
     ensures { Gives (read same) result (meaning.number_at (cursor at.entry)) }
 {
@@ -64,7 +64,7 @@ fn natural_within(least: u64, most: u64, number: i64) -> Option<u64>
 }
 
 /// A number from `least` to `most`.
-#[tactic(auto, unfolding(texts::specs::LaunchWords::natural_at))]
+#[tactic(auto, unfolding(crate::specs::LaunchWords::natural_at))]
 pub fn natural(at: Cursor<'_>, least: u64, most: u64) -> Result<(u64, Cursor<'_>), LaunchTextError>
     ensures value { Gives (read same) result (meaning.natural_at least most (cursor at.entry)) }
     ensures above { IfOk result (λ r. least ≤ r.0) }
@@ -97,7 +97,7 @@ fn word_within(kind: Kind, number: i64) -> Option<Word>
 }
 
 /// Reads a number of a kind as a word; a fault where none stands there or it is out of the kind's range.
-#[tactic(auto, unfolding(texts::specs::LaunchWords::word_at))]
+#[tactic(auto, unfolding(crate::specs::LaunchWords::word_at))]
 pub fn word(at: Cursor<'_>, kind: Kind) -> Result<(Word, Cursor<'_>), LaunchTextError>
     ensures { Gives (read word_seen) result (meaning.word_at (kind_of kind) (cursor at.entry)) }
 {
@@ -121,7 +121,7 @@ fn factor_within(number: i64) -> Option<Number>
 }
 
 /// Reads a number of a sum; a fault where none stands there or it is too large.
-#[tactic(auto, unfolding(texts::specs::LaunchWords::factor_at))]
+#[tactic(auto, unfolding(crate::specs::LaunchWords::factor_at))]
 pub fn factor(at: Cursor<'_>) -> Result<(Number, Cursor<'_>), LaunchTextError>
     ensures { Gives (read number_seen) result (meaning.factor_at (cursor at.entry)) }
 {

@@ -3,8 +3,8 @@
 ghost use Rattle.std.specs.Prelude.{false, IfOk};
 ghost use Rattle.semantics.specs.Launch.{Fits};
 ghost use Rattle.semantics.specs.Conditions.{ConditionsFit};
-ghost use Rattle.texts.specs.ConditionsReading as conditions;
-ghost use Rattle.texts.specs.LaunchReading as launches;
+ghost use Rattle.launch_text.specs.ConditionsReading as conditions;
+ghost use Rattle.launch_text.specs.LaunchReading as launches;
 ghost use Rattle.kernel_names.specs.View.{names_seen};
 ghost use Rattle.core_code.specs.View.{kernel as core_of};
 ghost use Rattle.launch.specs.View.{conditions as conditions_seen, launch as launch_seen};
@@ -18,9 +18,10 @@ use crate::launches::launch_of;
 use launch::conditions::Conditions;
 use launch::launches::Launch;
 use std::alloc::Global;
-use types::typed::Typed;
+use typed_kernels::Typed;
 
-/// The conditions that a text says of a kernel, or its first fault; of version 2 only where it may be. The text is gone through once.
+/// The conditions that a text says of a kernel, or its first fault; of version 2 or 3 only where it may be. The text is gone
+/// through once.
 pub fn read_conditions_as(
     alloc: Global,
     typed: &Typed,

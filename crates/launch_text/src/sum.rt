@@ -5,8 +5,8 @@ ghost use Rattle.words.specs.View.{value_of};
 ghost use Rattle.launch.specs.Numbers.{number as number_seen};
 ghost use Rattle.launch.specs.View.{factor as factor_seen, summand, sum as sum_seen};
 ghost use Rattle.texts.specs.Declarations.{most_names};
-ghost use Rattle.texts.specs.LaunchFaults.{sees, past};
-ghost use Rattle.texts.specs.LaunchSums as meaning;
+ghost use Rattle.launch_text.specs.LaunchFaults.{sees, past};
+ghost use Rattle.launch_text.specs.LaunchSums as meaning;
 ghost use Rattle.syntax.specs.View.{parameter as parameter_of};
 ghost use Rattle.launch_text.specs.Answers.{cursor, read, Gives};
 
@@ -44,7 +44,7 @@ fn value_number(parameters: &[Parameter], word: &[u8]) -> Option<u32>
     None
 }
 
-#[tactic(auto, unfolding(texts::specs::LaunchSums::argument_at))]
+#[tactic(auto, unfolding(crate::specs::LaunchSums::argument_at))]
 fn argument<'a>(
     at: Cursor<'a>,
     parameters: &[Parameter],
@@ -62,7 +62,7 @@ fn argument<'a>(
     Ok((Factor::Argument(parameter), after))
 }
 
-#[tactic(auto, unfolding(texts::specs::LaunchSums::symbol_at))]
+#[tactic(auto, unfolding(crate::specs::LaunchSums::symbol_at))]
 fn symbol<'a>(
     at: Cursor<'a>,
     parameters: &[Parameter],
@@ -108,7 +108,7 @@ fn strip_times<'a>(at: Cursor<'a>, has_products: bool) -> Option<Cursor<'a>>
     None
 }
 
-#[tactic(auto, unfolding(texts::specs::LaunchSums::symbols_at))]
+#[tactic(auto, unfolding(crate::specs::LaunchSums::symbols_at))]
 fn symbols<'a>(
     at: Cursor<'a>,
     parameters: &[Parameter],
@@ -140,7 +140,7 @@ fn begins_number(bytes: &[u8]) -> bool
     }
 }
 
-#[tactic(auto, unfolding(texts::specs::LaunchSums::term_at))]
+#[tactic(auto, unfolding(crate::specs::LaunchSums::term_at))]
 fn term<'a>(
     at: Cursor<'a>,
     parameters: &[Parameter],

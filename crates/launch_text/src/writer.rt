@@ -4,7 +4,7 @@ ghost use Rattle.std.specs.Prelude.{◌≡◌, ◌++◌, map, IfOk, OnOk};
 ghost use Rattle.std.specs.List.{flat_map};
 ghost use Rattle.std.specs.String.{string_bytes};
 ghost use Rattle.words.specs.View.{word as word_seen};
-ghost use Rattle.texts.specs.LaunchText as text;
+ghost use Rattle.launch_text.specs.LaunchText as text;
 ghost use Rattle.kernel_names.specs.View.{names_seen};
 ghost use Rattle.syntax.specs.View.{parameter as parameter_of};
 ghost use Rattle.launch_text.specs.View as view;
@@ -12,7 +12,7 @@ ghost use Rattle.launch_text.specs.View as view;
 use launch::launches::Buffers;
 use std::alloc::{AllocError, Global};
 use syntax::tree::Parameter;
-use types::typed::Typed;
+use typed_kernels::Typed;
 use words::Word;
 
 fn push_word(out: &mut String, word: Word) -> Result<(), AllocError>

@@ -10,7 +10,8 @@ use Rattle.std.specs.List.{prefix_len, find}
 use Rattle.std.specs.Str.{bytes_eq}
 use Rattle.texts.specs.Faults.{TextFault}
 use Rattle.texts.specs.Reserved.{reserved_words}
-use Rattle.texts.specs.Tokens.{TokenKind, Token, Site, site_of, first_site, past, Gap, Has, Bad, token_at, in_front, tokens, piece, begins_with, comment_end, first_place, is_blank, is_letter, is_word_byte, word_kind}
+use Rattle.texts.specs.Tokens.{TokenKind, Token, Site, site_of, first_site, past, Gap, Has, Bad, token_at, in_front, tokens, piece, begins_with, comment_end, first_place, is_blank, word_kind}
+use Rattle.lines.specs.Bytes.{is_letter, is_word_byte}
 use Rattle.texts.proofs.Fits.{Fits, piece_fits}
 use Rattle.texts.proofs.Steps.{reads, in_front-twice}
 

@@ -9,10 +9,11 @@
 ghost use Rattle.std.specs.Prelude.{◌≡◌, ℕ, ◌<◌, ◌≤◌, ◌+◌, ◌-◌, ◌^◌, length, fold};
 ghost use Rattle.std.specs.List.{prefix_len, find};
 ghost use Rattle.std.specs.Str.{bytes_eq};
-ghost use Rattle.texts.specs.Numbers.{is_decimal_digit};
+ghost use Rattle.lines.specs.Bytes.{is_decimal_digit};
 ghost use Rattle.texts.specs.Reserved.{reserved_words};
 ghost use Rattle.texts.specs.Signs.{signs};
-ghost use Rattle.texts.specs.Tokens.{is_blank, is_letter, is_word_byte, begins_with, word_kind, sign_piece, piece, past, tokens_of};
+ghost use Rattle.texts.specs.Tokens.{is_blank, begins_with, word_kind, sign_piece, piece, past, tokens_of};
+ghost use Rattle.lines.specs.Bytes.{is_letter, is_word_byte};
 ghost use Rattle.lexer.specs.Seen.{kind, piece_seen, site, Gives};
 
 mod comment;

@@ -2,7 +2,8 @@
 
 ghost use Rattle.std.specs.Prelude.{◌≡◌, ◌≤◌, ◌^◌, length, nat_eq, MatchOption};
 ghost use Rattle.std.specs.List.{prefix_len};
-ghost use Rattle.texts.specs.Numbers.{is_decimal_digit, is_digit, digit_value, value_of, is_well_spelt, sized, with_suffix, number_in, number_of};
+ghost use Rattle.texts.specs.Numbers.{is_digit, digit_value, value_of, sized, with_suffix, number_in, number_of};
+ghost use Rattle.lines.specs.Bytes.{is_decimal_digit, is_well_spelt};
 ghost use Rattle.texts.specs.Tokens.{is_exponent, is_sum_sign, goes_on, number_before};
 ghost use Rattle.lexer.specs.Seen.{number_seen};
 

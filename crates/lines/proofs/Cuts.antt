@@ -2,7 +2,7 @@
 use Rattle.std.proofs.Common.{◌≡◌, suc, ◌+◌, ◌≤◌, Bool, true, false, cond, not, List, [], ◌∷◌, length, arith, refl, ap}
 use Rattle.std.specs.List.{slice_split, onto_first, position_or_len}
 use Rattle.std.proofs.lemmas.Bool.{cond_both}
-use Rattle.texts.specs.Lines.{is_empty}
+use Rattle.lines.specs.Lines.{is_empty}
 
 one_there : {A : Type 0} (a : A) (others : List (List A)) → is_empty (onto_first a others) ≡ false
 one_there a [] = refl

@@ -2,7 +2,7 @@
 use Rattle.std.specs.Prelude.{ℕ, List, [], Option, None, Some}
 use Rattle.std.specs.Option.{option_map}
 use denote.Ref.{Bor}
-use Rattle.texts.specs.Lines.{pieces}
+use Rattle.lines.specs.Lines.{pieces}
 use Rattle.lines.specs.declared.pieces.Pieces.{Pieces}
 
 abbrev pub rest_left : (separator : ℕ) → Option (Bor (List ℕ)) → List (List ℕ)

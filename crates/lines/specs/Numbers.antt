@@ -1,6 +1,6 @@
 -- Numbers that the code has read.
 use Rattle.std.specs.Prelude.{Result, Ok, Err}
-use Rattle.texts.specs.Lines as lines
+use Rattle.lines.specs.Lines as lines
 use Rattle.lines.specs.declared.number.NumberFault.{NumberFault}
 use Rattle.lines.specs.declared.number.NumberFault.TheVariants as faults
 

@@ -2,8 +2,8 @@
 
 ghost use Rattle.std.specs.Prelude.{◌≡◌, ◌<◌, ◌≤◌, ◌^◌, false, IfOk, MatchOption};
 ghost use Rattle.std.specs.Str.{all_ascii_digits};
-ghost use Rattle.texts.specs.Numbers.{is_well_spelt};
-ghost use Rattle.texts.specs.Lines.{is_decimal, value_of, natural_of, negative_of, integer_of};
+ghost use Rattle.lines.specs.Bytes.{is_well_spelt};
+ghost use Rattle.lines.specs.Lines.{is_decimal, value_of, natural_of, negative_of, integer_of};
 ghost use Rattle.lines.specs.Numbers.{seen};
 
 /// Why a word is no number.
@@ -14,7 +14,7 @@ pub enum NumberFault {
 }
 
 /// A number from 0 on, where `i64` has it.
-#[tactic(auto, unfolding(texts::specs::Lines::natural_of))]
+#[tactic(auto, unfolding(crate::specs::Lines::natural_of))]
 pub fn natural(word: &[u8]) -> Result<u64, NumberFault>
     ensures exact { seen result ≡ natural_of word.now }
     ensures fits { IfOk result (λ n. n < 2 ^ 63) }
@@ -29,7 +29,7 @@ pub fn natural(word: &[u8]) -> Result<u64, NumberFault>
 }
 
 /// A number of either sign, where `i64` has it.
-#[tactic(auto, unfolding(texts::specs::Lines::integer_of))]
+#[tactic(auto, unfolding(crate::specs::Lines::integer_of))]
 pub fn integer(word: &[u8]) -> Result<i64, NumberFault>
     ensures { seen result ≡ integer_of word.now }
 {

@@ -13,7 +13,7 @@ pub struct Pieces<'a> {
 impl<'a> Pieces<'a> {
     ghost use Rattle.std.specs.Prelude.{◌≡◌, ◌≤◌, ◌+◌, [], ◌∷◌, length, MatchOption};
     ghost use Rattle.std.specs.Option.{option_copied};
-    ghost use Rattle.texts.specs.Lines.{pieces, is_empty, sole, two};
+    ghost use Rattle.lines.specs.Lines.{pieces, is_empty, sole, two};
     ghost use Rattle.lines.specs.Left.{left, both};
 
     /// All pieces of a text: one more than it has separators.

@@ -1,4 +1,4 @@
-//! Section: Replays. Promises a launch's events, its first data race and first barrier divergence, exactly; stands on `types` and
+//! Section: Replays. Promises a launch's events, its first data race and first barrier divergence, exactly; stands on `typed_kernels` and
 //! `clashes`.
 //!
 //! The machine: all work-items of a launch over one memory, one event at a time. A world that was opened is sound (`IsSound`), and each

@@ -29,7 +29,7 @@ use clashes::history::History;
 use core_code::tree::{Core, Site};
 use launch::launches::Launch;
 use std::alloc::{AllocError, Global};
-use types::typed::Typed;
+use typed_kernels::Typed;
 use words::{Fault, Word};
 use work_item::ask::{Ask, Cell, Owner};
 use work_item::identity::{group_size, identity, product_of};

@@ -2,7 +2,8 @@
 use Rattle.std.specs.Prelude.{ℕ, suc, pos, Bool, true, false, not, ◌&&◌, ◌||◌, cond, nat_eq, nat_lt, List, [], ◌∷◌, ◌++◌, length, slice_index_or, Option, Some, None}
 use Rattle.std.specs.Ordering.{int_eq}
 use Rattle.linear.specs.Linear.{Weighted}
-use Rattle.semantics.specs.Word.{Kind, Int, Uint, Size}
+use Rattle.semantics.specs.Word.{Kind, Int}
+pub use Rattle.semantics.specs.Word.{same_kind}
 use Rattle.semantics.specs.Core.{Statement, Set, Store, If, Loop, Barrier, Return, Break, Continue, Statements, none, one}
 use Rattle.semantics.specs.Launch.{Kernel}
 use Rattle.domain.specs.declared.Domain.{Ghosts}
@@ -17,17 +18,6 @@ use Rattle.walk_trees.specs.Walks.{State, any_of, least, greatest}
 use Rattle.walk_trees.specs.Statements.{spot_of, opening_values}
 use Rattle.walk_trees.specs.Operators.{small_product}
 use Rattle.obligations.specs.Notes.{Congruence, Multiple, Notes}
-
-abbrev pub same_kind : Kind → Kind → Bool
-same_kind Int Int = true
-same_kind Int Uint = false
-same_kind Int Size = false
-same_kind Uint Int = false
-same_kind Uint Uint = true
-same_kind Uint Size = false
-same_kind Size Int = false
-same_kind Size Uint = false
-same_kind Size Size = true
 
 -- some statement assigns the variable
 abbrev mutual

@@ -1,8 +1,19 @@
 //! Section: Tests. Promises nothing; it holds tests of crates of another section, and nothing stands on it.
 //!
-//! The tests of `opencl_tokens`, `opencl_parser` and `opencl_terms`, so that these are not proved twice.
+//! The tests of `opencl_tokens`, `opencl_parser`, `opencl_files`, `opencl_terms`, `opencl_values` and `opencl_core`, so that these are not
+//! proved twice.
 #![tactic(auto)]
 
+#[cfg(test)]
+mod core_shown;
+#[cfg(test)]
+mod cores;
+#[cfg(test)]
+mod expressions;
+#[cfg(test)]
+mod file_shown;
+#[cfg(test)]
+mod files;
 #[cfg(test)]
 mod read_shown;
 #[cfg(test)]

@@ -4,7 +4,7 @@ use crate::type_shown::{push_base, push_qualifiers, push_stars};
 use opencl_tree::tree::{Declaration, Declarator, Expr, First, Initial, Stmt};
 use std::alloc::AllocError;
 
-fn push_maybe(out: &mut String, tree: &Option<Expr>) -> Result<(), AllocError> {
+pub fn push_maybe(out: &mut String, tree: &Option<Expr>) -> Result<(), AllocError> {
     match tree {
         None => out.push_str("-"),
         Some(tree) => push_expression(out, tree),
@@ -42,7 +42,7 @@ fn push_declarator(out: &mut String, declarator: &Declarator) -> Result<(), Allo
     push_initial(out, &declarator.initial)
 }
 
-fn push_dimensions(out: &mut String, dimensions: &[Option<Expr>]) -> Result<(), AllocError> {
+pub fn push_dimensions(out: &mut String, dimensions: &[Option<Expr>]) -> Result<(), AllocError> {
     for dimension in dimensions {
         out.push_str("[")?;
         push_maybe(out, dimension)?;
@@ -51,7 +51,7 @@ fn push_dimensions(out: &mut String, dimensions: &[Option<Expr>]) -> Result<(), 
     Ok(())
 }
 
-fn push_declaration(out: &mut String, declaration: &Declaration) -> Result<(), AllocError> {
+pub fn push_declaration(out: &mut String, declaration: &Declaration) -> Result<(), AllocError> {
     write!(out, "{}", declaration.number)?;
     out.push_str(" ")?;
     push_qualifiers(out, declaration.qualifiers)?;

@@ -1,6 +1,7 @@
 // Terms of the core, as a text.
-use core_code::tree::{Direction, Operator, Relation, Term, UnaryOperator};
+use core_code::tree::{Array, Direction, Function, Operator, Relation, Space, Term, UnaryOperator};
 use std::alloc::AllocError;
+use words::Kind;
 
 fn operator_word(operator: Operator) -> &'static str {
     match operator {
@@ -42,7 +43,37 @@ fn direction_word(direction: Direction) -> &'static str {
     }
 }
 
-/// A term in parentheses: its sign, its kind, its operands. A load, an id and a choice are none that conversions make.
+fn function_word(function: Function) -> &'static str {
+    match function {
+        Function::GlobalId => "global_id",
+        Function::LocalId => "local_id",
+        Function::GroupId => "group_id",
+        Function::GlobalSize => "global_size",
+        Function::LocalSize => "local_size",
+        Function::NumGroups => "num_groups",
+    }
+}
+
+pub fn push_array(out: &mut String, array: Array) -> Result<(), AllocError> {
+    let number = array.number;
+    match array.space {
+        Space::Global => write!(out, "g{number}"),
+        Space::Local => write!(out, "l{number}"),
+    }
+}
+
+// What stands for an operand that there is not.
+fn is_nothing(term: &Term) -> bool {
+    matches!(
+        term,
+        Term::Literal {
+            kind: Kind::Uint,
+            value: 0
+        }
+    )
+}
+
+/// A term in parentheses: its sign, its kind, its operands. No sites are shown, and no place of an operation.
 pub fn push_term(out: &mut String, term: &Term) -> Result<(), AllocError> {
     match term {
         Term::Literal { kind, value } => write!(out, "{kind:?}:{value}"),
@@ -135,6 +166,7 @@ pub fn push_term(out: &mut String, term: &Term) -> Result<(), AllocError> {
             kind,
             first,
             second,
+            third,
             ..
         } => {
             write!(out, "(opaque{operation} {kind:?}")?;
@@ -142,8 +174,58 @@ pub fn push_term(out: &mut String, term: &Term) -> Result<(), AllocError> {
             push_term(out, first)?;
             out.push_str(" ")?;
             push_term(out, second)?;
+            if !is_nothing(third) {
+                out.push_str(" ")?;
+                push_term(out, third)?;
+            }
             out.push_str(")")
         }
-        _ => out.push_str("?"),
+        Term::Id {
+            function,
+            dimension,
+            ..
+        } => {
+            let word = function_word(*function);
+            write!(out, "({word} {dimension})")
+        }
+        Term::Load { array, index, .. } => {
+            out.push_str("(load ")?;
+            push_array(out, *array)?;
+            out.push_str(" ")?;
+            push_term(out, index)?;
+            out.push_str(")")
+        }
+        Term::Select {
+            test,
+            taken,
+            skipped,
+        } => {
+            out.push_str("(? ")?;
+            push_term(out, test)?;
+            out.push_str(" ")?;
+            push_term(out, taken)?;
+            out.push_str(" ")?;
+            push_term(out, skipped)?;
+            out.push_str(")")
+        }
+        Term::Minimum { left, right } => {
+            out.push_str("(min ")?;
+            push_term(out, left)?;
+            out.push_str(" ")?;
+            push_term(out, right)?;
+            out.push_str(")")
+        }
+        Term::Maximum { left, right } => {
+            out.push_str("(max ")?;
+            push_term(out, left)?;
+            out.push_str(" ")?;
+            push_term(out, right)?;
+            out.push_str(")")
+        }
+        Term::Within { length, index, .. } => {
+            write!(out, "(within {length} ")?;
+            push_term(out, index)?;
+            out.push_str(")")
+        }
     }
 }

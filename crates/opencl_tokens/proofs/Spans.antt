@@ -7,7 +7,8 @@ use Rattle.std.proofs.lemmas.Bool.Decides.{nat_tests}
 use Rattle.std.proofs.lemmas.List.{at_drop_more, drop_more}
 use Rattle.std.proofs.lemmas.List.Sums.{prefix_len_passes}
 use Rattle.std.proofs.lemmas.Str.Ascii.{IsAscii-nil, IsAscii-cons}
-use Rattle.texts.specs.Tokens.{begins_with, comment_end, is_padding, is_word_byte}
+use Rattle.texts.specs.Tokens.{begins_with, comment_end, is_padding}
+use Rattle.lines.specs.Bytes.{is_word_byte}
 use Rattle.opencl_tokens.specs.Joining.{line_end}
 
 -- a comment does not end at this byte

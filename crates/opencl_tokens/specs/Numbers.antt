@@ -3,7 +3,8 @@ use Rattle.std.specs.Prelude.{ℕ, ◌+◌, ◌*◌, ◌^◌, List, [], ◌∷�
 use Rattle.std.specs.List.{prefix_len, find}
 use Rattle.std.specs.Str.{bytes_eq}
 use Rattle.semantics.specs.Word.{Int, Uint}
-use Rattle.texts.specs.Numbers.{is_decimal_digit, digit_value, is_prefixed}
+use Rattle.texts.specs.Numbers.{digit_value, is_prefixed}
+use Rattle.lines.specs.Bytes.{is_decimal_digit}
 use Rattle.texts.specs.Tokens.{begins_with, is_sum_sign}
 use Rattle.opencl_tokens.specs.Words as vocabulary
 use Rattle.opencl_tokens.specs.Faults.{TextFault, NumberTooLarge, BadNumber, LeftOut}

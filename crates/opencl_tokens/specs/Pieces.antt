@@ -1,8 +1,9 @@
 -- What stands at the front of joined lines (C99 6.4): a blank, a line's end, a token or a fault. The longest is taken (6.4p4).
 use Rattle.std.specs.Prelude.{ℕ, ◌+◌, List, [], ◌∷◌, length, take, drop, Bool, false, cond, not, nat_eq, ◌&&◌, ◌||◌, Option, Some, None, codes}
 use Rattle.std.specs.List.{prefix_len, position_or_len, find}
-use Rattle.texts.specs.Numbers.{is_decimal_digit}
-use Rattle.texts.specs.Tokens.{begins_with, is_letter, is_word_byte, is_exponent, is_sum_sign, is_line_feed, comment_end}
+use Rattle.lines.specs.Bytes.{is_decimal_digit}
+use Rattle.texts.specs.Tokens.{begins_with, is_exponent, is_sum_sign, is_line_feed, comment_end}
+use Rattle.lines.specs.Bytes.{is_letter, is_word_byte}
 use Rattle.opencl_tokens.specs.Faults.{TextFault, BadByte, OpenComment}
 use Rattle.opencl_tokens.specs.Signs.{Sign, signs}
 use Rattle.opencl_tokens.specs.Tokens.{TokenKind, Name, Number, Character, Text, Mark, Other}

@@ -1,7 +1,8 @@
 //! Numbers as they are written.
 
 ghost use Rattle.std.specs.Prelude.{◌≡◌, ◌≤◌, ◌^◌, length, map, true, MatchOption};
-ghost use Rattle.texts.specs.Numbers.{is_decimal_digit, digit_value, is_prefixed};
+ghost use Rattle.texts.specs.Numbers.{digit_value, is_prefixed};
+ghost use Rattle.lines.specs.Bytes.{is_decimal_digit};
 ghost use Rattle.opencl_tokens.specs.Numbers.{suffixes, suffix_of, digits_len, is_digit, value_of, base_of, may_be_uint, Plain, Unsigned, sized, integer_of, number_in, number_of};
 ghost use Rattle.opencl_tokens.specs.Seen.{radix, suffix, suffix_entry, suffix_seen, kind_seen};
 

@@ -2,7 +2,8 @@
 
 ghost use Rattle.std.specs.Prelude.{◌≡◌, ◌≤◌, ◌<◌, ◌-◌, drop, length, IfSome, false, codes};
 ghost use Rattle.std.specs.List.{prefix_len, position_or_len, find};
-ghost use Rattle.texts.specs.Tokens.{is_letter, is_word_byte, is_exponent, is_sum_sign, is_line_feed, begins_with, comment_end};
+ghost use Rattle.texts.specs.Tokens.{is_exponent, is_sum_sign, is_line_feed, begins_with, comment_end};
+ghost use Rattle.lines.specs.Bytes.{is_letter, is_word_byte};
 ghost use Rattle.opencl_tokens.specs.Signs.{signs};
 ghost use Rattle.opencl_tokens.specs.Pieces.{is_blank, begins_number, goes_on, number_len, begins_wide, name_piece, word_piece, number_piece, ends_trigraph, is_trigraph, ends_quoted, closes, escapes, quoted_end, is_quote, quoted_kind, quoted_piece, comment_piece, sign_piece, mark_piece, spelt_piece, piece};
 ghost use Rattle.opencl_tokens.specs.Seen.{piece_seen, token_kind};

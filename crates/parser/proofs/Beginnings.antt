@@ -8,7 +8,7 @@ use Rattle.texts.specs.Tokens as token
 use Rattle.texts.specs.Tokens.{TokenKind}
 use Rattle.texts.specs.Lexemes.{Lexeme, infix_of, prefix_of}
 use Rattle.texts.specs.Surface.{Expression, InfixSign, PrefixSign, Statement}
-use Rattle.texts.specs.Elaboration.{either}
+use Rattle.texts.specs.Limits.{either}
 use Rattle.texts.specs.Limits.{past, deep_expression, deep_statement}
 use Rattle.texts.specs.Grammar as rules
 use Rattle.texts.specs.Grammar.{IsExpression, IsRank, IsOperand}

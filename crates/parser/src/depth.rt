@@ -2,7 +2,7 @@
 
 ghost use Rattle.std.specs.Prelude.{◌≡◌, ◌<◌, ◌++◌, map, OnOk};
 ghost use Rattle.std.specs.Option.{option_map};
-ghost use Rattle.texts.specs.Elaboration.{either as either_of};
+ghost use Rattle.texts.specs.Limits.{either as either_of};
 ghost use Rattle.texts.specs.Limits as limits;
 ghost use Rattle.syntax.specs.View.{expression, expressions, declaration, assignment, first, statement, statements, index_of};
 ghost use Rattle.core_code.specs.View.{site as site_of};

@@ -7,7 +7,6 @@ ghost use Rattle.core_code.specs.View.{array as array_seen, direction as directi
 ghost use Rattle.facts.specs.Refusals.{IsMemory};
 ghost use Rattle.facts.specs.Symbols.{constant, minus};
 ghost use Rattle.walk_trees.specs.Covered.{is_covered_unary};
-ghost use Rattle.walk_trees.specs.Joined as joined;
 ghost use Rattle.walk_trees.specs.Terms as terms;
 ghost use Rattle.walk_trees.specs.Values as values;
 ghost use Rattle.walk_trees.specs.Walks as walks;
@@ -28,7 +27,7 @@ use path_steps::{
     joined_differences, load, pick_joined, split,
 };
 use std::alloc::Global;
-use words::Kind;
+use words::{Kind, same_kind};
 
 /// The value of a number that is of this kind.
 pub fn literal(alloc: Global, kind: Kind, number: u32) -> Value
@@ -221,18 +220,6 @@ pub fn within_at<D: Domain>(
     Ok(index)
 }
 
-/// Both values are of one kind.
-fn are_alike(left: Kind, right: Kind) -> bool
-    ensures { result ≡ joined.same_kind (kind_seen left) (kind_seen right) }
-{
-    match (left, right) {
-        (Kind::Int, Kind::Int) | (Kind::Uint, Kind::Uint) | (Kind::Size, Kind::Size) => true,
-        (Kind::Int, Kind::Uint) | (Kind::Int, Kind::Size) => false,
-        (Kind::Uint, Kind::Int) | (Kind::Uint, Kind::Size) => false,
-        (Kind::Size, Kind::Int) | (Kind::Size, Kind::Uint) => false,
-    }
-}
-
 /// The differences of two values, if the ways on which one is less and on which it is not are joined.
 fn picked_differences<D: Domain>(
     setting: &Setting<D>,
@@ -242,7 +229,7 @@ fn picked_differences<D: Domain>(
 ) -> Result<Option<Differences>, WalkError>
     ensures { MatchResult result (λ r. MatchOption r (terms.is_joined_pick (seen D.Domain setting.now) (value_seen left.now) (value_seen right.now) (followed path.now).state ≡ false) (λ d. (terms.is_joined_pick (seen D.Domain setting.now) (value_seen left.now) (value_seen right.now) (followed path.now).state ≡ true) × (form_seen d.more ≡ minus (value_seen right.now).form (value_seen left.now).form) × (form_seen d.less ≡ minus (value_seen left.now).form (value_seen right.now).form))) IsMemory }
 {
-    if !are_alike(left.kind, right.kind) {
+    if !same_kind(left.kind, right.kind) {
         return Ok(None);
     }
     joined_differences(setting, path, false, &right.form, &left.form)

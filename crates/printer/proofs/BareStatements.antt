@@ -6,10 +6,11 @@ use Rattle.semantics.specs.Core as core
 use Rattle.semantics.specs.Core.{Site}
 use Rattle.texts.specs.Bare.{nowhere, bare_expression, bare_expressions, bare_declaration, bare_index, bare_assignment, bare_first, bare_statement, bare_statements, bare_parameter, bare_kernel}
 use Rattle.texts.specs.Surface.{Arithmetic, LeftShift, RightShift, Comparison, LogicalAnd, LogicalOr, AssignSign, Plain, With, WithLeftShift, WithRightShift, Expression, Number, Name, Element, Call, Prefix, Cast, Infix, Conditional, Expressions, nothing, also, Declaration, Assignment, First, FirstDeclares, FirstAssigns, JumpWord, Return, Break, Continue, Statement, Declare, DeclareArray, Assign, If, While, For, Barrier, Jump, Block, Statements, none, one, Parameter, Buffer, Value, Kernel, site_of}
-use Rattle.texts.specs.TypeFaults.{UnknownName, NameTwice, WriteToConst, ArrayInBlock, LoadInCompoundIndex, BarrierFlags, JumpOutsideLoop, then, when}
-use Rattle.texts.specs.Scope.{Devices, Meaning, VariableAt, ArrayAt, Scope, empty_scope, leave_block, meaning_of, may_declare, may_name_kernel}
-use Rattle.texts.specs.Typing.{TypedTerm, typed}
-use Rattle.texts.specs.Elaboration.{Elaborated, elaborated, single, join, assigned, either, first_load, first_load_in, without_load, site_or, target_array, target_slot, assign_to, elaborate_assignment, elaborate_declaration, elaborate_first, flag_named, one_flag, barrier_of, Around, InKernel, InLoop, is_in_kernel, inside, innermost_loop, jump_to, elaborate_statement, elaborate_all, declare_parameter, declare_parameters, elaborate_inside, elaborate}
+use Rattle.types.specs.TypeFaults.{UnknownName, NameTwice, WriteToConst, ArrayInBlock, LoadInCompoundIndex, BarrierFlags, JumpOutsideLoop, then, when}
+use Rattle.types.specs.Scope.{Devices, Meaning, VariableAt, ArrayAt, Scope, empty_scope, leave_block, meaning_of, may_declare, may_name_kernel}
+use Rattle.types.specs.Typing.{TypedTerm, typed}
+use Rattle.types.specs.Elaboration.{Elaborated, elaborated, single, join, assigned, first_load, first_load_in, without_load, site_or, target_array, target_slot, assign_to, elaborate_assignment, elaborate_declaration, elaborate_first, flag_named, one_flag, barrier_of, Around, InKernel, InLoop, is_in_kernel, inside, innermost_loop, jump_to, elaborate_statement, elaborate_all, declare_parameter, declare_parameters, elaborate_inside, elaborate}
+use Rattle.texts.specs.Limits.{either}
 use Rattle.printer.specs.BareCore.{bare_term, bare_step, bare_steps, bare_core, bare_checked}
 use Rattle.printer.proofs.BareTerms.{same, bare_typed, bare-then, bare-found, bare-when, bare-bring, bare-infix, bare-type}
 

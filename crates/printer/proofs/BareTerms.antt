@@ -6,9 +6,9 @@ use Rattle.semantics.specs.Core as core
 use Rattle.semantics.specs.Core.{Site, Function, Term}
 use Rattle.texts.specs.Bare.{nowhere, bare_expression, bare_expressions}
 use Rattle.texts.specs.Surface.{PrefixSign, Minus, LogicalNot, BitNot, InfixSign, Arithmetic, LeftShift, RightShift, Comparison, LogicalAnd, LogicalOr, Expression, Number, Name, Element, Call, Prefix, Cast, Infix, Conditional, Expressions, nothing, also}
-use Rattle.texts.specs.TypeFaults.{TypeFault, UnknownName, WrongType, LeftOutWord, Checked, refused, then, when, found}
-use Rattle.texts.specs.Scope.{Devices, size_kind, Meaning, VariableAt, ArrayAt, Binding, meaning_of}
-use Rattle.texts.specs.Typing.{TypedTerm, typed, common, brought, bring, variable_term, array_of, prefix_term, shift_count, shifted, shift_term, widened, operand, arithmetic_term, comparison_term, infix_term, conditional_term, function_named, is_left_out, has_dimension, id_term, same_kind, pick_term, are_two, call_other, call_term, type_of, types_of}
+use Rattle.types.specs.TypeFaults.{TypeFault, UnknownName, WrongType, LeftOutWord, Checked, refused, then, when, found}
+use Rattle.types.specs.Scope.{Devices, size_kind, Meaning, VariableAt, ArrayAt, Binding, meaning_of}
+use Rattle.types.specs.Typing.{TypedTerm, typed, common, brought, bring, variable_term, array_of, prefix_term, shift_count, shifted, shift_term, widened, operand, arithmetic_term, comparison_term, infix_term, conditional_term, function_named, is_left_out, has_dimension, id_term, same_kind, pick_term, are_two, call_other, call_term, type_of, types_of}
 use Rattle.printer.specs.BareCore.{bare_term, bare_checked}
 
 abbrev pub same : {A : Type 0} → A → A

@@ -5,15 +5,15 @@ use Rattle.texts.specs.Bare.{bare_kernel}
 use Rattle.texts.specs.Brackets.{AllOpenStatements}
 use Rattle.texts.specs.Canonical.{canonical}
 use Rattle.texts.specs.CanonicalTokens.{IsPrintableKernel, kernel_tokens}
-use Rattle.texts.specs.Elaboration.{elaborate}
+use Rattle.types.specs.Elaboration.{elaborate}
 use Rattle.texts.specs.KernelGrammar.{IsKernel}
 use Rattle.texts.specs.KernelLimits.{IsWithinLimits}
 use Rattle.texts.specs.Lexemes.{lexemes}
-use Rattle.texts.specs.Scope.{Devices}
+use Rattle.types.specs.Scope.{Devices}
 use Rattle.texts.specs.Spelling.{AreNumbered}
 use Rattle.texts.specs.Surface as surface
 use Rattle.texts.specs.Tokens.{Token, Lexed, tokens}
-use Rattle.texts.specs.TypeFaults.{Checked}
+use Rattle.types.specs.TypeFaults.{Checked}
 use Rattle.texts.proofs.CanonicalKernel.{kernel_related}
 use Rattle.texts.proofs.CanonicalStatements.{lex_kernel}
 use Rattle.texts.proofs.CanonicalText.{text_read, tokens_read_of}

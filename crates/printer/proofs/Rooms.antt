@@ -3,7 +3,7 @@ use Rattle.std.proofs.Common.{◌≡◌, ◌≤◌, ℕ, zero, suc, ◌+◌, Boo
 use Rattle.std.proofs.lemmas.Bool.Decides.{nat_tests}
 use Rattle.std.specs.Prelude.{Option, Some, None}
 use Rattle.semantics.specs.Core.{Site}
-use Rattle.texts.specs.Elaboration.{either}
+use Rattle.texts.specs.Limits.{either}
 use Rattle.texts.specs.Canonical.{is_compound}
 use Rattle.texts.specs.Brackets.{InBrackets, AsOperand, Opens, AllOpen, OpensIndex, OpensAssignment, OpensFirst, OpensStatement, AllOpenStatements}
 use Rattle.texts.specs.Limits.{past, deep_expression, deep_arguments, deep_index, deep_declaration, deep_assignment, deep_first, deep_statement, deep_statements}

@@ -3,7 +3,7 @@ use Rattle.std.specs.Prelude.{Ok, Err}
 use Rattle.semantics.specs.Core.{Term, Literal, Variable, Id, Load, Unary, Binary, Convert, Compare, Not, And, Or, Select, Minimum, Maximum, Shift, Within, Opaque, Statement, Set, Store, If, Loop, Barrier, Return, Break, Continue, Statements, none, one}
 use Rattle.semantics.specs.Launch.{Kernel}
 use Rattle.texts.specs.Bare.{nowhere}
-use Rattle.texts.specs.TypeFaults.{Checked}
+use Rattle.types.specs.TypeFaults.{Checked}
 
 abbrev pub bare_term : Term → Term
 bare_term (Literal kind z) = Literal kind z

@@ -9,7 +9,6 @@ use crate::sign::push_kind;
 use crate::statement::push_statements;
 use std::alloc::{AllocError, Global};
 use syntax::tree::{Kernel, Parameter};
-use types::typed::Typed;
 
 fn push_parameter(out: &mut String, parameter: &Parameter) -> Result<(), AllocError>
     ensures { OnOk result (string_bytes out.new ≡ string_bytes out.old ++ text.parameter_text (view.parameter parameter.now)) }
@@ -78,11 +77,11 @@ fn push_kernel(alloc: Global, out: &mut String, kernel: &Kernel) -> Result<(), A
     out.push_str("}\n")
 }
 
-/// The canonical text of a kernel. The error is want of memory.
-pub fn print(alloc: Global, typed: &Typed) -> Result<String, AllocError>
-    ensures { IfOk result (λ text_made. string_bytes text_made ≡ text.canonical (view.kernel typed.now.2)) }
+/// The canonical text of a kernel's tree. The error is want of memory.
+pub fn print(alloc: Global, tree: &Kernel) -> Result<String, AllocError>
+    ensures { IfOk result (λ text_made. string_bytes text_made ≡ text.canonical (view.kernel tree.now)) }
 {
     let mut out = String::new(alloc);
-    push_kernel(alloc, &mut out, typed.tree())?;
+    push_kernel(alloc, &mut out, tree)?;
     Ok(out)
 }

@@ -13,8 +13,8 @@ ghost use Rattle.texts.specs.Bare.{bare_kernel};
 ghost use Rattle.texts.specs.Brackets.{AllOpenStatements};
 ghost use Rattle.texts.specs.Canonical.{canonical};
 ghost use Rattle.texts.specs.CanonicalTokens.{IsPrintableKernel};
-ghost use Rattle.texts.specs.Elaboration.{elaborate};
-ghost use Rattle.texts.specs.Scope.{Devices};
+ghost use Rattle.types.specs.Elaboration.{elaborate};
+ghost use Rattle.types.specs.Scope.{Devices};
 ghost use Rattle.texts.specs.Spelling.{AreNumbered};
 ghost use Rattle.texts.specs.Surface as surface;
 

@@ -3,8 +3,7 @@ use Rattle.std.proofs.Common.{◌≡◌, ℕ, List, [], ◌∷◌, ◌++◌, map
 use Rattle.std.specs.Prelude.{◌⊎◌, Option, Some, None, Result, Ok, Err, IfSome, IfOk, Vec, String}
 use Rattle.std.specs.declared.alloc.Global.{Global}
 use Rattle.std.specs.String.{string_bytes}
-use Rattle.texts.specs.Scope.{Devices, Bits32}
-use Rattle.reading.specs.Kernels.{Source, text_for}
+use Rattle.kernel_reading.specs.Kernels.{Reading, Source, narrow, text_for, text_under}
 use Rattle.reading.specs.Answers as kernels
 use Rattle.launch_text.specs.Answers as launches
 use Rattle.cert_check.specs.Numbers as checks
@@ -25,7 +24,7 @@ use Rattle.telling.specs.Proving.{no_launch_line}
 use Rattle.telling.specs.ProvingVerdicts.{Begins, Explains, IsProvedBySome}
 use Rattle.telling.specs.Migrating.{IsUnmigrated}
 use Rattle.cert_check.specs.declared.error.CheckError.TheVariants as errors
-use Rattle.program.specs.Running.{kernel_read, conditions_read, certificate_read, saving, Request, CheckOwn, Check, Run, Prove, Explain, ExplainCheck, Print, Migrate, Texts, Asks, Answered, IsSafeText, IsSought, Fulfils}
+use Rattle.program.specs.Running.{limit_by, kernel_read, conditions_read, certificate_read, saving, Request, CheckOwn, Check, Run, Prove, Explain, ExplainCheck, Print, Migrate, Texts, Asks, Answered, IsSafeText, IsSought, Fulfils}
 use Rattle.program.specs.Running.{Read, Write, IsOf, Reads, Does, Saves, IsRefusalText, Success, Output, done, refused, silent, torn}
 use Rattle.program.specs.Refusing.{Refuses, Refusal}
 use Rattle.program.specs.Verdicts.{IsAnsweredBy, Tells, Finds, Kept, Moves, Moved, Explained, IsTold, IsWritten}
@@ -42,7 +41,7 @@ run_line is_wide workers k c p l line (inr (inl (kernel, conditions, s, r, h))) 
 run_line is_wide workers k c p l line (inr (inr (inl (e, kernel, conditions, s, r, h)))) = (launches.error_number e, place_seen (checks.at_line (launches.error_place e)), h)
 run_line is_wide workers k c p l line (inr (inr (inr (e, kernel, conditions, launch, s, q, r, h)))) = (runs.error_number e, place_seen (checks.at_line (runs.error_line e)), h)
 
-print_line : (k : Source) (line : List ℕ) → IsRefusedKernel k line → IsRefusalLine line
+print_line : (k line : List ℕ) → IsRefusedKernel k line → IsRefusalLine line
 print_line k line (e, r, h) = (kernels.error_number e, place_seen (checks.at_place (kernels.error_place e)), h)
 
 migrate_line : (old line : List ℕ) → IsUnmigrated old line → IsRefusalLine line
@@ -64,34 +63,34 @@ begun tells f text h =
 
 text_of : (r : Request) (t : Texts) (saved : Option Write) (text : List ℕ) → Refuses r t saved text → IsRefusalText text
 text_of CheckOwn t saved text h = alone text (check_line false _ _ _ text h)
-text_of (Check k c p wide d) t saved text h = alone text (check_line wide (text_for d t.kernel) t.conditions t.certificate text h)
-text_of (Run k c p l workers wide d) t saved text h = alone text (run_line wide workers (text_for d t.kernel) t.conditions t.certificate t.launch text h)
-text_of (Prove k c workers out wide d) t saved text h = search_text wide workers (text_for d t.kernel) t.conditions text h.0
-text_of (Explain k c wide d) t saved text h = begun (IsUnproved wide 1 (text_for d t.kernel) t.conditions) (search_text wide 1 (text_for d t.kernel) t.conditions) text h
-text_of (ExplainCheck k c p wide d) t saved text h =
-    let kernel = text_for d t.kernel in
+text_of (Check k c p wide r) t saved text h = alone text (check_line wide (text_under r t.conditions t.kernel) t.conditions t.certificate text h)
+text_of (Run k c p l workers wide r) t saved text h = alone text (run_line wide workers (text_under r t.conditions t.kernel) t.conditions t.certificate t.launch text h)
+text_of (Prove k c workers out wide r) t saved text h = search_text wide workers (text_under r t.conditions t.kernel) t.conditions text h.0
+text_of (Explain k c wide r) t saved text h = begun (IsUnproved wide 1 (text_under r t.conditions t.kernel) t.conditions) (search_text wide 1 (text_under r t.conditions t.kernel) t.conditions) text h
+text_of (ExplainCheck k c p wide r) t saved text h =
+    let kernel = text_under r t.conditions t.kernel in
     begun (IsRefusedText wide kernel t.conditions t.certificate) (λ line refusal. alone line (check_line wide kernel t.conditions t.certificate line refusal)) text h
-text_of (Print k) t saved text h = alone text (print_line (text_for Bits32 t.kernel) text h)
+text_of (Print k) t saved text h = alone text (print_line t.kernel text h)
 text_of (Migrate o n) t saved text h = alone text (migrate_line t.certificate text h.0)
 
 -- what a verdict tells fulfils the request, or refuses it
 fulfils : (text : Vec ℕ Global) (r : Request) (t : Texts) (saved : Option Write) → IsAnsweredBy (verdicts.Done text) r t saved → Fulfils IsProvedText r t saved text.items
 fulfils text CheckOwn t saved h = h
-fulfils text (Check k c p wide d) t saved h = h
-fulfils text (Run k c p l workers wide d) t saved h = h
-fulfils text (Prove k c workers out wide d) t saved h = h
-fulfils text (Explain k c wide d) t saved h = h
-fulfils text (ExplainCheck k c p wide d) t saved h = h
+fulfils text (Check k c p wide r) t saved h = h
+fulfils text (Run k c p l workers wide r) t saved h = h
+fulfils text (Prove k c workers out wide r) t saved h = h
+fulfils text (Explain k c wide r) t saved h = h
+fulfils text (ExplainCheck k c p wide r) t saved h = h
 fulfils text (Print k) t saved h = h
 fulfils text (Migrate o n) t saved h = h
 
 refuses : (line : String Global) (r : Request) (t : Texts) (saved : Option Write) → IsAnsweredBy (verdicts.Refused line) r t saved → Refuses r t saved (string_bytes line)
 refuses line CheckOwn t saved h = h
-refuses line (Check k c p wide d) t saved h = h
-refuses line (Run k c p l workers wide d) t saved h = h
-refuses line (Prove k c workers out wide d) t saved h = h
-refuses line (Explain k c wide d) t saved h = h
-refuses line (ExplainCheck k c p wide d) t saved h = h
+refuses line (Check k c p wide r) t saved h = h
+refuses line (Run k c p l workers wide r) t saved h = h
+refuses line (Prove k c workers out wide r) t saved h = h
+refuses line (Explain k c wide r) t saved h = h
+refuses line (ExplainCheck k c p wide r) t saved h = h
 refuses line (Print k) t saved h = h
 refuses line (Migrate o n) t saved h = h
 
@@ -145,20 +144,20 @@ is_explained is_wide kernel conditions (verdicts.Refused text) h = h
 is_explained is_wide kernel conditions verdicts.OutOfMemory h = tt
 
 -- a search of files whose answer was kept tells of it
-module _ {F : Type 0} (contents : F → List ℕ → Option (List ℕ)) (gives : F → List ℕ → ℕ → List ℕ → F → Type 0) (before next after : F) (ws : List (List ℕ)) (k c kernel conditions : List ℕ) (workers : ℕ) (out : Option (List ℕ)) (is_wide : Bool) (devices : Devices) where
+module _ {F : Type 0} (contents : F → List ℕ → Option (List ℕ)) (gives : F → List ℕ → ℕ → List ℕ → F → Type 0) (before next after : F) (ws : List (List ℕ)) (k c kernel conditions : List ℕ) (workers : ℕ) (out : Option (List ℕ)) (is_wide : Bool) (reading : Reading) where
   abbrev Given : Type 0
-  Given = Reads contents gives before next (kernel_read k kernel ∷ conditions_read c conditions ∷ [])
+  Given = Reads contents gives before next (kernel_read (limit_by reading) k kernel ∷ conditions_read c conditions ∷ [])
 
   abbrev of_search : Texts
   of_search = record { kernel = kernel; conditions = conditions; certificate = []; launch = [] }
 
   -- with this file written, or none
-  asked_of : (v : Verdict) (saved : Option Write) → Asks ws (Prove k c workers out is_wide devices) → Given → Saves contents next after saved → Finds out v is_wide workers (text_for devices kernel) conditions saved → Tells (Does contents gives before after) ws v
+  asked_of : (v : Verdict) (saved : Option Write) → Asks ws (Prove k c workers out is_wide reading) → Given → Saves contents next after saved → Finds out v is_wide workers (text_under reading conditions kernel) conditions saved → Tells (Does contents gives before after) ws v
   asked_of v saved w r s h =
-      record { request = Prove k c workers out is_wide devices; texts = of_search; saved = saved; asked = w; done = does contents gives before next after (kernel_read k kernel ∷ conditions_read c conditions ∷ []) saved r s; may_write = tt; is_told = h }
+      record { request = Prove k c workers out is_wide reading; texts = of_search; saved = saved; asked = w; done = does contents gives before next after (kernel_read (limit_by reading) k kernel ∷ conditions_read c conditions ∷ []) saved r s; may_write = tt; is_told = h }
 
-  pub tells : (v : Verdict) → Asks ws (Prove k c workers out is_wide devices) → Given → Kept contents next after out is_wide workers (text_for devices kernel) conditions v → Tells (Does contents gives before after) ws v
-  tells (verdicts.Done text) w r h = asked_of (verdicts.Done text) (saving out h.0) w r h.2 (is_safe_text is_wide (text_for devices kernel) conditions h.0 text.items h.1, (h.0, h.1, refl))
+  pub tells : (v : Verdict) → Asks ws (Prove k c workers out is_wide reading) → Given → Kept contents next after out is_wide workers (text_under reading conditions kernel) conditions v → Tells (Does contents gives before after) ws v
+  tells (verdicts.Done text) w r h = asked_of (verdicts.Done text) (saving out h.0) w r h.2 (is_safe_text is_wide (text_under reading conditions kernel) conditions h.0 text.items h.1, (h.0, h.1, refl))
   tells (verdicts.Refused line) w r h = asked_of (verdicts.Refused line) None w r h.1 (h.0, refl)
   tells verdicts.OutOfMemory w r h = asked_of verdicts.OutOfMemory None w r h tt
 

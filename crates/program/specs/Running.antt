@@ -3,14 +3,13 @@ use Rattle.std.specs.Prelude.{◌≡◌, ◌≢◌, ◌+◌, ◌++◌, ◌⊎◌
 use Rattle.std.specs.Io.KnownBytes.{Appends, Keeps}
 use Rattle.semantics.specs.Launch.{Launch, Fits}
 use Rattle.semantics.specs.Conditions.{Conditions, Meets}
-use Rattle.texts.specs.Scope.{Devices, Bits32}
-use Rattle.reading.specs.Kernels.{Kernel, Source, text_for}
+use Rattle.kernel_reading.specs.Kernels.{Language, Plain, OpenCl, Reading, Kernel, Source, narrow, text_for, text_under}
 use Rattle.telling.specs.Telling.{AreSafeTexts, IsAcceptedText, IsResultText, IsPrintedText, accepted_line}
 use Rattle.telling.specs.Proving.{no_launch_line}
 use Rattle.telling.specs.ProvingVerdicts.{Begins}
 use Rattle.telling.specs.Migrating.{IsMigrated}
 use Rattle.telling.specs.Refusals.{IsRefusalLine}
-use Rattle.command_line.specs.Words.{operands, has_wide, HasWord, AsksWorkers, AsksDevices, saved_as}
+use Rattle.command_line.specs.Words.{operands, has_wide, HasWord, AsksWorkers, AsksReading, saved_as}
 use Rattle.program.specs.First.{first_kernel, first_conditions}
 
 -- a read of a file: its name, the limit of its text, and the bytes that it gave
@@ -53,8 +52,19 @@ abbrev pub saving : Option (List ℕ) → (text : List ℕ) → Option Write
 saving None text = None
 saving (Some name) text = Some (record { name = name; text = text })
 
-abbrev pub kernel_read : (name bytes : List ℕ) → Read
-kernel_read name bytes = record { name = name; limit = 65536; bytes = bytes }
+-- the longest text of a kernel, in bytes
+abbrev pub plain_limit : ℕ
+plain_limit = 65536
+
+abbrev pub limit_in : Language → ℕ
+limit_in Plain = plain_limit
+limit_in OpenCl = 1048576
+
+abbrev pub limit_by : Reading → ℕ
+limit_by r = limit_in r.language
+
+abbrev pub kernel_read : (limit : ℕ) (name bytes : List ℕ) → Read
+kernel_read limit name bytes = record { name = name; limit = limit; bytes = bytes }
 
 abbrev pub conditions_read : (name bytes : List ℕ) → Read
 conditions_read name bytes = record { name = name; limit = 65536; bytes = bytes }
@@ -67,14 +77,14 @@ launch_read name bytes = record { name = name; limit = 4194304; bytes = bytes }
 
 -- what the words ask of it: a check of the texts that stand in the program, or a check, a run, a search, an explanation, a canonical text
 -- or a certificate in version 2 of files, each by its name; by the wide check or search, or by the one that is not; of a kernel that is
--- read for these devices
+-- read in this way
 pub data Request : Type 0 where
   CheckOwn : Request
-  Check : (kernel conditions certificate : List ℕ) (is_wide : Bool) (devices : Devices) → Request
-  Run : (kernel conditions certificate launch : List ℕ) (workers : ℕ) (is_wide : Bool) (devices : Devices) → Request
-  Prove : (kernel conditions : List ℕ) (workers : ℕ) (out : Option (List ℕ)) (is_wide : Bool) (devices : Devices) → Request
-  Explain : (kernel conditions : List ℕ) (is_wide : Bool) (devices : Devices) → Request
-  ExplainCheck : (kernel conditions certificate : List ℕ) (is_wide : Bool) (devices : Devices) → Request
+  Check : (kernel conditions certificate : List ℕ) (is_wide : Bool) (reading : Reading) → Request
+  Run : (kernel conditions certificate launch : List ℕ) (workers : ℕ) (is_wide : Bool) (reading : Reading) → Request
+  Prove : (kernel conditions : List ℕ) (workers : ℕ) (out : Option (List ℕ)) (is_wide : Bool) (reading : Reading) → Request
+  Explain : (kernel conditions : List ℕ) (is_wide : Bool) (reading : Reading) → Request
+  ExplainCheck : (kernel conditions certificate : List ℕ) (is_wide : Bool) (reading : Reading) → Request
   Print : (kernel : List ℕ) → Request
   Migrate : (old new : List ℕ) → Request
 
@@ -85,14 +95,14 @@ HasNoWord ws n = slice_get (operands false ws) n ≡ None
 -- which words ask for it, options left out
 abbrev pub Asks : List (List ℕ) → Request → Type 0
 Asks ws CheckOwn = ws ≡ []
-Asks ws (Check k c p wide d) = HasWord ws 0 (codes "check") × HasWord ws 1 k × HasWord ws 2 c × HasWord ws 3 p × (wide ≡ has_wide ws) × AsksDevices ws d
-Asks ws (Run k c p l workers wide d) =
-    HasWord ws 0 (codes "run") × HasWord ws 1 k × HasWord ws 2 c × HasWord ws 3 p × HasWord ws 4 l × AsksWorkers ws workers × (wide ≡ has_wide ws) × AsksDevices ws d
-Asks ws (Prove k c workers out wide d) =
-    HasWord ws 0 (codes "prove") × HasWord ws 1 k × HasWord ws 2 c × AsksWorkers ws workers × (out ≡ saved_as false ws) × (wide ≡ has_wide ws) × AsksDevices ws d
-Asks ws (Explain k c wide d) = HasWord ws 0 (codes "explain") × HasWord ws 1 k × HasWord ws 2 c × HasNoWord ws 3 × (wide ≡ has_wide ws) × AsksDevices ws d
-Asks ws (ExplainCheck k c p wide d) =
-    HasWord ws 0 (codes "explain") × HasWord ws 1 k × HasWord ws 2 c × HasWord ws 3 p × (wide ≡ has_wide ws) × AsksDevices ws d
+Asks ws (Check k c p wide r) = HasWord ws 0 (codes "check") × HasWord ws 1 k × HasWord ws 2 c × HasWord ws 3 p × (wide ≡ has_wide ws) × AsksReading ws r
+Asks ws (Run k c p l workers wide r) =
+    HasWord ws 0 (codes "run") × HasWord ws 1 k × HasWord ws 2 c × HasWord ws 3 p × HasWord ws 4 l × AsksWorkers ws workers × (wide ≡ has_wide ws) × AsksReading ws r
+Asks ws (Prove k c workers out wide r) =
+    HasWord ws 0 (codes "prove") × HasWord ws 1 k × HasWord ws 2 c × AsksWorkers ws workers × (out ≡ saved_as false ws) × (wide ≡ has_wide ws) × AsksReading ws r
+Asks ws (Explain k c wide r) = HasWord ws 0 (codes "explain") × HasWord ws 1 k × HasWord ws 2 c × HasNoWord ws 3 × (wide ≡ has_wide ws) × AsksReading ws r
+Asks ws (ExplainCheck k c p wide r) =
+    HasWord ws 0 (codes "explain") × HasWord ws 1 k × HasWord ws 2 c × HasWord ws 3 p × (wide ≡ has_wide ws) × AsksReading ws r
 Asks ws (Print k) = HasWord ws 0 (codes "print") × HasWord ws 1 k
 Asks ws (Migrate o n) = HasWord ws 0 (codes "migrate") × HasWord ws 1 o × HasWord ws 2 n
 
@@ -106,22 +116,22 @@ pub record Texts : Type 0 where
 -- the reads that gave it, in this order
 abbrev pub reads : Request → Texts → List Read
 reads CheckOwn t = []
-reads (Check k c p wide d) t = kernel_read k t.kernel ∷ conditions_read c t.conditions ∷ certificate_read p t.certificate ∷ []
-reads (Run k c p l workers wide d) t = kernel_read k t.kernel ∷ conditions_read c t.conditions ∷ certificate_read p t.certificate ∷ launch_read l t.launch ∷ []
-reads (Prove k c workers out wide d) t = kernel_read k t.kernel ∷ conditions_read c t.conditions ∷ []
-reads (Explain k c wide d) t = kernel_read k t.kernel ∷ conditions_read c t.conditions ∷ []
-reads (ExplainCheck k c p wide d) t = kernel_read k t.kernel ∷ conditions_read c t.conditions ∷ certificate_read p t.certificate ∷ []
-reads (Print k) t = kernel_read k t.kernel ∷ []
+reads (Check k c p wide r) t = kernel_read (limit_by r) k t.kernel ∷ conditions_read c t.conditions ∷ certificate_read p t.certificate ∷ []
+reads (Run k c p l workers wide r) t = kernel_read (limit_by r) k t.kernel ∷ conditions_read c t.conditions ∷ certificate_read p t.certificate ∷ launch_read l t.launch ∷ []
+reads (Prove k c workers out wide r) t = kernel_read (limit_by r) k t.kernel ∷ conditions_read c t.conditions ∷ []
+reads (Explain k c wide r) t = kernel_read (limit_by r) k t.kernel ∷ conditions_read c t.conditions ∷ []
+reads (ExplainCheck k c p wide r) t = kernel_read (limit_by r) k t.kernel ∷ conditions_read c t.conditions ∷ certificate_read p t.certificate ∷ []
+reads (Print k) t = kernel_read plain_limit k t.kernel ∷ []
 reads (Migrate o n) t = certificate_read o t.certificate ∷ []
 
 -- a search may write a file, and so may `migrate`
 abbrev pub MayWrite : Request → Option Write → Type 0
 MayWrite CheckOwn saved = saved ≡ None
-MayWrite (Check k c p wide d) saved = saved ≡ None
-MayWrite (Run k c p l workers wide d) saved = saved ≡ None
-MayWrite (Prove k c workers out wide d) saved = Unit {0}
-MayWrite (Explain k c wide d) saved = saved ≡ None
-MayWrite (ExplainCheck k c p wide d) saved = saved ≡ None
+MayWrite (Check k c p wide r) saved = saved ≡ None
+MayWrite (Run k c p l workers wide r) saved = saved ≡ None
+MayWrite (Prove k c workers out wide r) saved = Unit {0}
+MayWrite (Explain k c wide r) saved = saved ≡ None
+MayWrite (ExplainCheck k c p wide r) saved = saved ≡ None
 MayWrite (Print k) saved = saved ≡ None
 MayWrite (Migrate o n) saved = Unit {0}
 
@@ -157,13 +167,13 @@ IsMoved name old written saved = (new : List ℕ) × IsMigrated old new written 
 -- what fulfils a request: `accepted`, the buffers of a launch, a canonical text, or `migrated`; where an answer is explained, it begins the
 -- text
 abbrev pub Fulfils : (proof : (is_wide : Bool) (kernel : Source) (conditions certificate written : List ℕ) → Type 0) → Request → Texts → Option Write → (written : List ℕ) → Type 0
-Fulfils proof CheckOwn t saved written = IsAcceptedText false (text_for Bits32 first_kernel) first_conditions written
-Fulfils proof (Check k c p wide d) t saved written = IsAcceptedText wide (text_for d t.kernel) t.conditions written
-Fulfils proof (Run k c p l workers wide d) t saved written = IsResultText wide (text_for d t.kernel) t.conditions t.launch written
-Fulfils proof (Prove k c workers out wide d) t saved written = IsFound proof wide out (text_for d t.kernel) t.conditions written saved
-Fulfils proof (Explain k c wide d) t saved written = Begins (IsSought proof wide (text_for d t.kernel) t.conditions) written
-Fulfils proof (ExplainCheck k c p wide d) t saved written = Begins (IsAcceptedText wide (text_for d t.kernel) t.conditions) written
-Fulfils proof (Print k) t saved written = IsPrintedText (text_for Bits32 t.kernel) written
+Fulfils proof CheckOwn t saved written = IsAcceptedText false (text_for narrow first_kernel) first_conditions written
+Fulfils proof (Check k c p wide r) t saved written = IsAcceptedText wide (text_under r t.conditions t.kernel) t.conditions written
+Fulfils proof (Run k c p l workers wide r) t saved written = IsResultText wide (text_under r t.conditions t.kernel) t.conditions t.launch written
+Fulfils proof (Prove k c workers out wide r) t saved written = IsFound proof wide out (text_under r t.conditions t.kernel) t.conditions written saved
+Fulfils proof (Explain k c wide r) t saved written = Begins (IsSought proof wide (text_under r t.conditions t.kernel) t.conditions) written
+Fulfils proof (ExplainCheck k c p wide r) t saved written = Begins (IsAcceptedText wide (text_under r t.conditions t.kernel) t.conditions) written
+Fulfils proof (Print k) t saved written = IsPrintedText t.kernel written
 Fulfils proof (Migrate o n) t saved written = IsMoved n t.certificate written saved
 
 abbrev pub Success : (given : List Read → Option Write → Type 0) (proof : (is_wide : Bool) (kernel : Source) (conditions certificate written : List ℕ) → Type 0) (ws : List (List ℕ)) (written : List ℕ) → Type 0

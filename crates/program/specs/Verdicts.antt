@@ -2,8 +2,7 @@
 use Rattle.std.specs.Prelude.{◌≡◌, ◌⊎◌, ℕ, List, Bool, false, Option, None, take}
 use Rattle.std.specs.String.{string_bytes}
 use Rattle.std.specs.Io.KnownBytes.{Appends, Keeps}
-use Rattle.texts.specs.Scope.{Bits32}
-use Rattle.reading.specs.Kernels.{Source, text_for}
+use Rattle.kernel_reading.specs.Kernels.{Source, narrow, text_for, text_under}
 use Rattle.telling.specs.Verdicts.{Checks, Runs, Prints}
 use Rattle.telling.specs.Proving.{IsProvedText, IsUnproved}
 use Rattle.telling.specs.declared.Verdict.{Verdict}
@@ -45,13 +44,13 @@ Moved contents before after out old verdicts.OutOfMemory = after ≡ before
 
 -- of a request and the texts that it is about
 abbrev pub IsAnsweredBy : Verdict → Request → Texts → Option Write → Type 0
-IsAnsweredBy v CheckOwn t saved = Checks false v (text_for Bits32 first_kernel) first_conditions first_certificate
-IsAnsweredBy v (Check k c p wide d) t saved = Checks wide v (text_for d t.kernel) t.conditions t.certificate
-IsAnsweredBy v (Run k c p l workers wide d) t saved = Runs wide v workers (text_for d t.kernel) t.conditions t.certificate t.launch
-IsAnsweredBy v (Prove k c workers out wide d) t saved = Finds out v wide workers (text_for d t.kernel) t.conditions saved
-IsAnsweredBy v (Explain k c wide d) t saved = Explained wide v (text_for d t.kernel) t.conditions
-IsAnsweredBy v (ExplainCheck k c p wide d) t saved = ExplainsCheck wide v (text_for d t.kernel) t.conditions t.certificate
-IsAnsweredBy v (Print k) t saved = Prints v (text_for Bits32 t.kernel)
+IsAnsweredBy v CheckOwn t saved = Checks false v (text_for narrow first_kernel) first_conditions first_certificate
+IsAnsweredBy v (Check k c p wide r) t saved = Checks wide v (text_under r t.conditions t.kernel) t.conditions t.certificate
+IsAnsweredBy v (Run k c p l workers wide r) t saved = Runs wide v workers (text_under r t.conditions t.kernel) t.conditions t.certificate t.launch
+IsAnsweredBy v (Prove k c workers out wide r) t saved = Finds out v wide workers (text_under r t.conditions t.kernel) t.conditions saved
+IsAnsweredBy v (Explain k c wide r) t saved = Explained wide v (text_under r t.conditions t.kernel) t.conditions
+IsAnsweredBy v (ExplainCheck k c p wide r) t saved = ExplainsCheck wide v (text_under r t.conditions t.kernel) t.conditions t.certificate
+IsAnsweredBy v (Print k) t saved = Prints v t.kernel
 IsAnsweredBy v (Migrate o n) t saved = Moves n v t.certificate saved
 
 abbrev pub Tells : (given : List Read → Option Write → Type 0) (ws : List (List ℕ)) → Verdict → Type 0

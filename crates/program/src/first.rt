@@ -1,12 +1,12 @@
 //! The texts that the program checks where it is given no word: a fill of a buffer, one item an element.
 
 ghost use Rattle.std.specs.Prelude.{◌≡◌};
-ghost use Rattle.texts.specs.Scope.{Bits32};
-ghost use Rattle.reading.specs.Kernels.{text_for};
-ghost use Rattle.reading.specs.Sources.{source};
+ghost use Rattle.kernel_reading.specs.Kernels as kernels;
+ghost use Rattle.kernel_reading.specs.Kernels.{text_for};
+ghost use Rattle.kernel_reading.specs.Sources.{source};
 ghost use Rattle.program.specs.First.{first_kernel, first_conditions, first_certificate};
 
-use reading::narrow;
+use kernel_reading::narrow;
 use telling::Texts;
 
 const KERNEL: &[u8] =
@@ -24,7 +24,7 @@ const CERTIFICATE: &[u8] = b"certificate 1\n\
 
 /// The texts of the kernel, the conditions and the certificate that the program checks where it is given no word.
 pub fn first_texts() -> Texts<'static>
-    ensures kernel { source result.kernel ≡ text_for Bits32 first_kernel }
+    ensures kernel { source result.kernel ≡ text_for kernels.narrow first_kernel }
     ensures conditions { result.conditions.now ≡ first_conditions }
     ensures certificate { result.certificate.now ≡ first_certificate }
 {

@@ -2,18 +2,16 @@
 
 ghost use Rattle.std.specs.Prelude.{◌≡◌, ◌≢◌, ℕ, List, [], ◌∷◌, Bool, false, IfOk, OnOk, codes};
 ghost use Rattle.std.specs.Option.{option_map};
-ghost use Rattle.texts.specs.Scope.{Bits32};
-ghost use Rattle.types.specs.Names.{devices as devices_seen};
-ghost use Rattle.reading.specs.Kernels as kernels;
-ghost use Rattle.reading.specs.Kernels.{text_for};
-ghost use Rattle.reading.specs.Sources.{source};
+ghost use Rattle.kernel_reading.specs.Kernels as kernels;
+ghost use Rattle.kernel_reading.specs.Kernels.{text_for, text_under};
+ghost use Rattle.kernel_reading.specs.Sources.{language as language_seen, reading as reading_seen, source};
 ghost use Rattle.telling.specs.Verdicts.{Checks};
 ghost use Rattle.telling.specs.Proving.{IsProvedText};
 ghost use Rattle.telling.specs.ProvingVerdicts.{Proves};
 ghost use Rattle.telling.specs.Migrating.{Migrates};
-ghost use Rattle.command_line.specs.Words.{texts, has_wide, HasWord, HasNames, AsksWorkers, AsksDevices, HasSearch, HasSubject};
+ghost use Rattle.command_line.specs.Words.{texts, has_wide, HasWord, HasNames, AsksWorkers, AsksReading, HasSearch, HasSubject};
 ghost use Rattle.program.specs.First.{first_kernel, first_conditions, first_certificate};
-ghost use Rattle.program.specs.Running.{IsOf, Reads, Does, IsPut, Saves, saving, kernel_read, conditions_read, certificate_read, HasNoWord, Success, IsOut, Output};
+ghost use Rattle.program.specs.Running.{IsOf, Reads, Does, IsPut, Saves, saving, limit_in, limit_by, kernel_read, conditions_read, certificate_read, HasNoWord, Success, IsOut, Output};
 ghost use Rattle.program.specs.Refusing.{Refusal};
 ghost use Rattle.program.specs.Verdicts.{Tells, Kept, Moved, IsTold, IsWritten, IsStopped};
 
@@ -21,7 +19,7 @@ use crate::files::{FileFault, Files};
 use crate::first::first_texts;
 use crate::writing::is_written;
 use command_line::{Line, Names, Search, Subject, read_line};
-use reading::Source;
+use kernel_reading::{Language, Reading, Source};
 use std::alloc::Global;
 use std::io::Write;
 use std::sync::Wait;
@@ -30,7 +28,6 @@ use telling::{
     Effort, Sought, Texts, Unwatched, Verdict, Watcher, check_texts, explain_check, explain_texts,
     migrate_text, print_text, prove_texts, run_texts,
 };
-use types::devices::Devices;
 
 /// The line on the standard error where words are no command line.
 pub const USAGE: &str = "usage: kverify prove | check | run | print | migrate\n";
@@ -53,20 +50,34 @@ struct Found {
 }
 
 impl Found {
-    /// The texts, of which the kernel's is read for these devices.
-    fn texts(&self, devices: Devices) -> Texts<'_>
-        ensures kernel { source result.kernel ≡ text_for (devices_seen devices) self.now.kernel.items }
+    /// The texts, of which the kernel's is read in this way.
+    fn texts(&self, reading: Reading) -> Texts<'_>
+        ensures kernel { source result.kernel ≡ text_under (reading_seen reading) self.now.conditions.items self.now.kernel.items }
         ensures conditions { result.conditions.now ≡ self.now.conditions.items }
         ensures certificate { result.certificate.now ≡ self.now.certificate.items }
     {
         Texts {
             kernel: Source {
-                devices,
+                reading,
+                conditions: &self.conditions,
                 bytes: &self.kernel,
             },
             conditions: &self.conditions,
             certificate: &self.certificate,
         }
+    }
+}
+
+/// The longest plain text of a kernel, in bytes.
+const PLAIN_LIMIT: u64 = 65_536;
+
+/// The longest text of a kernel in a language, in bytes.
+fn kernel_limit(language: Language) -> u64
+    ensures { result ≡ limit_in (language_seen language) }
+{
+    match language {
+        Language::Plain => PLAIN_LIMIT,
+        Language::OpenCl => 1_048_576,
     }
 }
 
@@ -85,10 +96,10 @@ fn text_of<'a, F: Files>(files: &mut F, name: &'a str, limit: u64) -> Result<Vec
 
 /// Reads the files of the kernel, the conditions and the certificate, in this order.
 fn texts_of<'a, F: Files>(files: &mut F, names: Names<'a>) -> Result<Found, Stop<'a>>
-    ensures reads { IfOk result (λ t. Reads F.contents F.gives files.old files.new (kernel_read names.entry.kernel.now t.kernel.items ∷ conditions_read names.entry.conditions.now t.conditions.items ∷ certificate_read names.entry.certificate.now t.certificate.items ∷ [])) }
+    ensures reads { IfOk result (λ t. Reads F.contents F.gives files.old files.new (kernel_read (limit_by (reading_seen names.entry.reading)) names.entry.kernel.now t.kernel.items ∷ conditions_read names.entry.conditions.now t.conditions.items ∷ certificate_read names.entry.certificate.now t.certificate.items ∷ [])) }
     ensures same { (n : List ℕ) → F.contents files.new n ≡ F.contents files.old n }
 {
-    let kernel = text_of(files, names.kernel, 65_536)?;
+    let kernel = text_of(files, names.kernel, kernel_limit(names.reading.language))?;
     let conditions = text_of(files, names.conditions, 65_536)?;
     let certificate = text_of(files, names.certificate, 16_777_216)?;
     Ok(Found {
@@ -100,7 +111,7 @@ fn texts_of<'a, F: Files>(files: &mut F, names: Names<'a>) -> Result<Found, Stop
 
 /// The check of the texts that stand in the program.
 fn first_verdict(alloc: Global) -> Verdict
-    ensures { Checks false result (text_for Bits32 first_kernel) first_conditions first_certificate }
+    ensures { Checks false result (text_for kernels.narrow first_kernel) first_conditions first_certificate }
 {
     check_texts(alloc, first_texts(), false)
 }
@@ -115,7 +126,7 @@ fn checked<'a, F: Files>(
     ensures same { (n : List ℕ) → F.contents files.new n ≡ F.contents files.old n }
 {
     let found = texts_of(files, names)?;
-    Ok(check_texts(alloc, found.texts(names.devices), names.is_wide))
+    Ok(check_texts(alloc, found.texts(names.reading), names.is_wide))
 }
 
 /// The verdict of `run` on files.
@@ -132,7 +143,7 @@ fn ran<'a, R: Threads + Wait + Sync, F: Files>(
 {
     let found = texts_of(files, names)?;
     let launch = text_of(files, launch, 4_194_304)?;
-    let texts = found.texts(names.devices);
+    let texts = found.texts(names.reading);
     Ok(run_texts(rt, alloc, texts, &launch, workers, names.is_wide))
 }
 
@@ -190,10 +201,10 @@ fn searched<'a, R: Threads + Wait + Sync, F: Files, W: Watcher>(
     files: &mut F,
     watcher: &W,
 ) -> Result<Sought, Stop<'a>>
-    ensures reads { IfOk result (λ f. (kernel : List ℕ) × (conditions : List ℕ) × Reads F.contents F.gives files.old files.new (kernel_read search.entry.kernel.now kernel ∷ conditions_read search.entry.conditions.now conditions ∷ []) × Proves search.entry.is_wide f search.entry.workers (text_for (devices_seen search.entry.devices) kernel) conditions) }
+    ensures reads { IfOk result (λ f. (kernel : List ℕ) × (conditions : List ℕ) × Reads F.contents F.gives files.old files.new (kernel_read (limit_by (reading_seen search.entry.reading)) search.entry.kernel.now kernel ∷ conditions_read search.entry.conditions.now conditions ∷ []) × Proves search.entry.is_wide f search.entry.workers (text_under (reading_seen search.entry.reading) conditions kernel) conditions) }
     ensures same { (n : List ℕ) → F.contents files.new n ≡ F.contents files.old n }
 {
-    let kernel = text_of(files, search.kernel, 65_536)?;
+    let kernel = text_of(files, search.kernel, kernel_limit(search.reading.language))?;
     let conditions = text_of(files, search.conditions, 65_536)?;
     let effort = Effort {
         workers: search.workers,
@@ -201,7 +212,8 @@ fn searched<'a, R: Threads + Wait + Sync, F: Files, W: Watcher>(
         may_widen: search.is_wide,
     };
     let text = Source {
-        devices: search.devices,
+        reading: search.reading,
+        conditions: &conditions,
         bytes: &kernel,
     };
     Ok(prove_texts(rt, alloc, text, &conditions, effort, watcher))
@@ -232,7 +244,7 @@ fn explained_check<'a, F: Files>(
     ensures same { (n : List ℕ) → F.contents files.new n ≡ F.contents files.old n }
 {
     let found = texts_of(files, names)?;
-    Ok(explain_check(alloc, found.texts(names.devices), names.is_wide))
+    Ok(explain_check(alloc, found.texts(names.reading), names.is_wide))
 }
 
 /// The search for a certificate of files, its answer explained.
@@ -243,13 +255,18 @@ fn explained_search<'a, R: Threads + Wait + Sync, F: Files, W: Watcher>(
     files: &mut F,
     watcher: &W,
 ) -> Result<Verdict, Stop<'a>>
-    ensures verdict { (ws : List (List ℕ)) → HasWord ws 0 (codes "explain") → HasWord ws 1 subject.entry.kernel.now → HasWord ws 2 subject.entry.conditions.now → HasNoWord ws 3 → subject.entry.is_wide ≡ has_wide ws → AsksDevices ws (devices_seen subject.entry.devices) → IfOk result (λ v. Tells (Does F.contents F.gives files.old files.new) ws v) }
+    ensures verdict { (ws : List (List ℕ)) → HasWord ws 0 (codes "explain") → HasWord ws 1 subject.entry.kernel.now → HasWord ws 2 subject.entry.conditions.now → HasNoWord ws 3 → subject.entry.is_wide ≡ has_wide ws → AsksReading ws (reading_seen subject.entry.reading) → IfOk result (λ v. Tells (Does F.contents F.gives files.old files.new) ws v) }
     ensures same { (n : List ℕ) → F.contents files.new n ≡ F.contents files.old n }
 {
-    let kernel = text_of(files, subject.kernel, 65_536)?;
+    let kernel = text_of(
+        files,
+        subject.kernel,
+        kernel_limit(subject.reading.language),
+    )?;
     let conditions = text_of(files, subject.conditions, 65_536)?;
     let text = Source {
-        devices: subject.devices,
+        reading: subject.reading,
+        conditions: &conditions,
         bytes: &kernel,
     };
     let is_wide = subject.is_wide;
@@ -272,7 +289,7 @@ fn explained<'a, R: Threads + Wait + Sync, F: Files, W: Watcher>(
         conditions,
         certificate,
         is_wide,
-        devices,
+        reading,
     } = subject;
     match certificate {
         Some(certificate) => explained_check(
@@ -282,7 +299,7 @@ fn explained<'a, R: Threads + Wait + Sync, F: Files, W: Watcher>(
                 conditions,
                 certificate,
                 is_wide,
-                devices,
+                reading,
             },
             files,
         ),
@@ -295,7 +312,7 @@ fn printed<'a, F: Files>(alloc: Global, kernel: &'a str, files: &mut F) -> Resul
     ensures verdict { (ws : List (List ℕ)) → HasWord ws 0 (codes "print") → HasWord ws 1 kernel.now → IfOk result (λ v. Tells (Does F.contents F.gives files.old files.new) ws v) }
     ensures same { (n : List ℕ) → F.contents files.new n ≡ F.contents files.old n }
 {
-    let text = text_of(files, kernel, 65_536)?;
+    let text = text_of(files, kernel, PLAIN_LIMIT)?;
     Ok(print_text(alloc, &text))
 }
 

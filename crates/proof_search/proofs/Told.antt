@@ -4,13 +4,13 @@ use Rattle.std.specs.Prelude.{◌≡◌, Option, Some, None, IfSome, slice_index
 use Rattle.semantics.specs.Conditions.{Conditions}
 use Rattle.semantics.specs.Launch.{Launch}
 use Rattle.semantics.specs.World.{Event}
-use Rattle.texts.specs.ConditionsReading.{Lined, meant}
-use Rattle.texts.specs.ConditionsText.{IsConditionsText}
-use Rattle.reading.specs.Kernels.{Kernel, Source}
-use Rattle.reading.specs.Texts.{IsTextOf}
-use Rattle.reading.specs.Answers.{kernel_seen}
+use Rattle.launch_text.specs.ConditionsReading.{Lined, meant}
+use Rattle.launch_text.specs.ConditionsText.{IsConditionsText}
+use Rattle.kernel_reading.specs.Kernels.{Kernel, Source}
+use Rattle.kernel_reading.specs.Texts.{IsTextOf}
+use Rattle.kernel_reading.specs.Answers.{kernel_seen}
 use Rattle.kernel_names.specs.View.{names_seen}
-use Rattle.types.specs.TypedKernel.{TypedKernel}
+use Rattle.typed_kernels.specs.TypedKernel.{TypedKernel}
 use Rattle.launch.specs.View.{conditions as conditions_seen}
 use Rattle.launch.specs.declared.conditions.Conditions as code
 use Rattle.launch_text.specs.View.{lined}

@@ -4,10 +4,10 @@ use Rattle.std.specs.declared.alloc.AllocError.{AllocError}
 use Rattle.semantics.specs.Conditions.{Conditions, Meets}
 use Rattle.semantics.specs.Launch.{Launch, Fits}
 use Rattle.semantics.specs.World.{Event}
-use Rattle.reading.specs.Kernels.{Kernel}
-use Rattle.reading.specs.Answers.{kernel_seen}
+use Rattle.kernel_reading.specs.Kernels.{Kernel}
+use Rattle.kernel_reading.specs.Answers.{kernel_seen}
 use Rattle.kernel_names.specs.View.{names_seen}
-use Rattle.types.specs.TypedKernel.{TypedKernel}
+use Rattle.typed_kernels.specs.TypedKernel.{TypedKernel}
 use Rattle.core_code.specs.View.{kernel as core_seen}
 use Rattle.launch.specs.View.{conditions as conditions_seen, launch as launch_seen}
 use Rattle.launch.specs.declared.conditions.Conditions as code

@@ -4,11 +4,11 @@ use Rattle.std.specs.List.{All}
 use Rattle.semantics.specs.Setup.{at_launch}
 use Rattle.semantics.specs.Launch.{Launch, Fits}
 use Rattle.semantics.specs.Conditions.{Conditions, Meets}
-use Rattle.texts.specs.ConditionsText.{IsConditionsText}
-use Rattle.reading.specs.Kernels.{Kernel, Source}
-use Rattle.reading.specs.Texts.{IsTextOf}
-use Rattle.reading.specs.Answers.{kernel_seen}
-use Rattle.types.specs.TypedKernel.{TypedKernel}
+use Rattle.launch_text.specs.ConditionsText.{IsConditionsText}
+use Rattle.kernel_reading.specs.Kernels.{Kernel, Source}
+use Rattle.kernel_reading.specs.Texts.{IsTextOf}
+use Rattle.kernel_reading.specs.Answers.{kernel_seen}
+use Rattle.typed_kernels.specs.TypedKernel.{TypedKernel}
 use Rattle.launch.specs.View.{conditions as conditions_seen}
 use Rattle.launch.specs.declared.conditions.Conditions as code
 use Rattle.findings.specs.Findings.{Finding}

@@ -1,8 +1,8 @@
 -- What an error of a search tells.
-use Rattle.reading.specs.Kernels.{Source}
+use Rattle.kernel_reading.specs.Kernels.{Source}
 use Rattle.std.specs.Prelude.{◌<◌, ◌≤◌, ◌⊎◌, ◌≡◌, ℕ, List, [], Bool, true, false, cond}
-use Rattle.texts.specs.ConditionsReading.{Lined}
-use Rattle.types.specs.TypedKernel.{TypedKernel}
+use Rattle.launch_text.specs.ConditionsReading.{Lined}
+use Rattle.typed_kernels.specs.TypedKernel.{TypedKernel}
 use Rattle.launch.specs.declared.conditions.Conditions as code
 use Rattle.certificate_text.specs.Certificate.{Certificate}
 use Rattle.certificate_text.specs.NumberedText.{text_of_two, text_of_four}

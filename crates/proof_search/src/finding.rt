@@ -2,21 +2,20 @@
 
 ghost use Rattle.std.specs.Prelude.{◌≡◌, ℕ, List, Bool, true, false, IfOk, IfErr, IfSome, MatchResult};
 ghost use Rattle.core_code.specs.View.{kernel as core_seen};
-ghost use Rattle.types.specs.TypedKernel.{TypedKernel};
+ghost use Rattle.typed_kernels.specs.TypedKernel.{TypedKernel};
 ghost use Rattle.launch.specs.declared.conditions.Conditions as code;
 ghost use Rattle.launch_text.specs.Fits.{IsOf};
 ghost use Rattle.launch_text.specs.View.{lined};
 ghost use Rattle.work_item.specs.Proper.{is_proper};
 ghost use Rattle.facts.specs.Launching.{are_sizes};
 ghost use Rattle.places.specs.Answers.{IsRefused};
-ghost use Rattle.texts.specs.ConditionsReading.{Lined};
+ghost use Rattle.launch_text.specs.ConditionsReading.{Lined};
 ghost use Rattle.certificate_text.specs.NumberedText.{text_of_two};
 ghost use Rattle.certificate.specs.Certificates.{certificate as certificate_seen};
 ghost use Rattle.cert_check.specs.Refusing.{AreRead};
-ghost use Rattle.texts.specs.Scope.{Bits32};
-ghost use Rattle.reading.specs.Kernels as kernels;
-ghost use Rattle.reading.specs.Kernels.{text_for};
-ghost use Rattle.reading.specs.Sources.{source};
+ghost use Rattle.kernel_reading.specs.Kernels as kernels;
+ghost use Rattle.kernel_reading.specs.Kernels.{text_for};
+ghost use Rattle.kernel_reading.specs.Sources.{source};
 ghost use Rattle.proof_search.specs.Searching.{IsCount, IsNoCount, Ends, TellsOf, text_found, text_by};
 ghost use Rattle.proof_search.specs.declared.error.VerifyError.TheVariants as errors;
 
@@ -29,16 +28,16 @@ use certificate_search::{Missing, SearchError, Unwatched, Watcher, search};
 use facts::WalkError;
 use guess_walk::Subject;
 use kernel_names::site_at;
+use kernel_reading::laws::{bytes_are_the_text_of_what_is_read, local_sizes_are_within_limits};
+use kernel_reading::{Source, narrow, read_source};
 use launch::conditions::Conditions;
 use launch_text::laws::what_is_read_of_conditions_is_their_text;
 use launch_text::read_conditions_as;
 use places::{Place, PlaceError, places};
-use reading::laws::{bytes_are_the_text_of_what_is_read, local_sizes_are_within_limits};
-use reading::{Source, narrow, read_source};
 use shown_kernels::proper::what_is_read_is_proper;
 use std::alloc::{AllocError, Global};
 use std::thread::Threads;
-use types::typed::Typed;
+use typed_kernels::Typed;
 use walk::FindError;
 
 /// A certificate that was found, with its text.
@@ -372,7 +371,7 @@ pub fn find<R: Threads + Sync>(
 ) -> Result<Found, VerifyError>
     ensures written { IfOk result (λ f. f.text.items ≡ text_of_two (certificate_seen f.certificate)) }
     ensures workers { IfOk result (λ _. IsCount workers) }
-    ensures told { IfErr result (λ e. TellsOf false e workers (text_for Bits32 kernel.now) conditions.now) }
+    ensures told { IfErr result (λ e. TellsOf false e workers (text_for kernels.narrow kernel.now) conditions.now) }
 {
     let effort = Effort {
         workers,

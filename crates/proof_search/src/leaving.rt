@@ -10,14 +10,14 @@ use certificate_search::{Missing, SearchError, Watcher, search};
 use diagnostics::Finding;
 use facts::WalkError;
 use guess_walk::Subject;
+use kernel_reading::laws::local_sizes_are_within_limits;
+use kernel_reading::{Source, read_source};
 use launch::conditions::Conditions;
 use launch_text::read_conditions_as;
 use places::{PlaceError, places};
-use reading::laws::local_sizes_are_within_limits;
-use reading::{Source, read_source};
 use std::alloc::{AllocError, Global};
 use std::thread::Threads;
-use types::typed::Typed;
+use typed_kernels::Typed;
 use walk::FindError;
 
 /// With so many obligations that are not shown a search tells of no more, or of no more than so many findings.

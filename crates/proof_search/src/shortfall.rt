@@ -2,12 +2,12 @@
 
 ghost use Rattle.std.specs.Prelude.{◌≡◌, true, None, IfOk, IfSome, OnOk};
 ghost use Rattle.core_code.specs.View.{kernel as core_seen};
-ghost use Rattle.types.specs.TypedKernel.{TypedKernel};
+ghost use Rattle.typed_kernels.specs.TypedKernel.{TypedKernel};
 ghost use Rattle.launch.specs.declared.conditions.Conditions as code;
 ghost use Rattle.launch.specs.View.{conditions as conditions_seen};
 ghost use Rattle.launch_text.specs.Fits.{IsOf};
 ghost use Rattle.launch_text.specs.View.{lined};
-ghost use Rattle.reading.specs.Answers.{kernel_seen};
+ghost use Rattle.kernel_reading.specs.Answers.{kernel_seen};
 ghost use Rattle.work_item.specs.Proper.{is_proper};
 ghost use Rattle.findings.specs.View.{finding as finding_seen};
 ghost use Rattle.proof_search.specs.Findings.{IsTrue, AreTrue};
@@ -20,7 +20,7 @@ use launch::probe::probe;
 use launch_text::laws::a_least_launch_fits;
 use path_steps::Sort;
 use std::alloc::{AllocError, Global};
-use types::typed::Typed;
+use typed_kernels::Typed;
 use words::{Fault, Kind};
 
 /// How many findings are told at most.

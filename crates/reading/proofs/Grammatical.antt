@@ -5,9 +5,9 @@ use Rattle.semantics.specs.Launch as launch
 use Rattle.texts.specs.Tokens.{Lexed, Token, tokens_of}
 use Rattle.texts.specs.Lexemes.{lexemes}
 use Rattle.texts.specs.Surface as surface
-use Rattle.texts.specs.TypeFaults.{Checked}
-use Rattle.texts.specs.Scope.{Devices}
-use Rattle.texts.specs.Elaboration.{elaborate}
+use Rattle.types.specs.TypeFaults.{Checked}
+use Rattle.types.specs.Scope.{Devices}
+use Rattle.types.specs.Elaboration.{elaborate}
 use Rattle.texts.specs.Spelling.{IsTextTree}
 use Rattle.texts.proofs.Endings.{lexemes_ended}
 use Rattle.texts.proofs.Spellings.{lexemes_spelt}

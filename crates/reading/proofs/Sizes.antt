@@ -2,9 +2,9 @@
 use Rattle.std.proofs.Common.{◌≡◌, ℕ, List, Ok, Err, sym, ap, subst}
 use Rattle.semantics.specs.Launch as launch
 use Rattle.texts.specs.Surface as surface
-use Rattle.texts.specs.TypeFaults.{NameTwice, Checked, then, when}
-use Rattle.texts.specs.Elaboration.{elaborate_inside, elaborate, InKernel, elaborate_all, declare_parameters}
-use Rattle.texts.specs.Scope.{Devices, empty_scope, may_name_kernel}
+use Rattle.types.specs.TypeFaults.{NameTwice, Checked, then, when}
+use Rattle.types.specs.Elaboration.{elaborate_inside, elaborate, InKernel, elaborate_all, declare_parameters}
+use Rattle.types.specs.Scope.{Devices, empty_scope, may_name_kernel}
 use Rattle.texts.specs.KernelLimits.{IsLocalSize}
 use Rattle.reading.specs.Kernels.{Kernel, Source, read}
 use Rattle.reading.specs.Limits.{HasLocalSizes}

@@ -7,7 +7,7 @@ use Rattle.parser.specs.Parsed as parsed
 use Rattle.parser.specs.declared.error.ParseError.TheVariants as trees
 use Rattle.syntax.specs.View.{kernel}
 use Rattle.core_code.specs.View.{site}
-use Rattle.types.specs.TypedKernel.{TypedKernel}
+use Rattle.types.specs.declared.typed.TypedTree.{TypedTree}
 use Rattle.kernel_names.specs.View.{names_seen}
 use Rattle.types.specs.Answers as types
 use Rattle.core_code.specs.View as core
@@ -16,8 +16,8 @@ use Rattle.reading.specs.Kernels.{Kernel, Read, OfText, OfTree, OfTypes}
 use Rattle.reading.specs.declared.KernelError.{KernelError}
 use Rattle.reading.specs.declared.KernelError.TheVariants as errors
 
-abbrev pub kernel_seen : TypedKernel → Kernel
-kernel_seen (names, found, tree) = record { tree = kernel tree; core = core.kernel found; names = names_seen names }
+abbrev pub kernel_seen : TypedTree → Kernel
+kernel_seen t = record { tree = kernel t.tree; core = core.kernel t.typed.1; names = names_seen t.typed.0 }
 
 -- an error is the definition's, unless memory was refused
 abbrev pub Refuses : KernelError → Read → Type 0
@@ -26,7 +26,7 @@ Refuses (errors.Tree (trees.At f s)) answer = answer ≡ Err (OfTree (parser.fau
 Refuses (errors.Types (typing.At f s)) answer = answer ≡ Err (OfTypes (types.fault f), site s)
 Refuses error answer = Unit {0}
 
-abbrev pub Gives : Result TypedKernel KernelError → Read → Type 0
+abbrev pub Gives : Result TypedTree KernelError → Read → Type 0
 Gives (Ok typed) answer = answer ≡ Ok (kernel_seen typed)
 Gives (Err error) answer = Refuses error answer
 

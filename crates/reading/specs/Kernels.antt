@@ -5,12 +5,12 @@ use Rattle.semantics.specs.Launch as launch
 use Rattle.semantics.specs.Core.{Site}
 use Rattle.texts.specs.Faults.{TextFault}
 use Rattle.texts.specs.ParseFaults.{ParseFault}
-use Rattle.texts.specs.TypeFaults.{TypeFault, Checked}
+use Rattle.types.specs.TypeFaults.{TypeFault, Checked}
 use Rattle.texts.specs.Tokens.{Lexed, tokens_of}
 use Rattle.texts.specs.Lexemes.{lexemes}
 use Rattle.texts.specs.Surface as surface
-use Rattle.texts.specs.Scope.{Devices}
-use Rattle.texts.specs.Elaboration.{elaborate}
+use Rattle.types.specs.Scope.{Devices}
+use Rattle.types.specs.Elaboration.{elaborate}
 use Rattle.kernel_names.specs.NameMap.{NameMap, names_of}
 use Rattle.parser.specs.Parsed.{Parsed, parsed}
 

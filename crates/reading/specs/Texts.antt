@@ -4,7 +4,7 @@ use Rattle.texts.specs.Tokens.{Token, tokens_of}
 use Rattle.texts.specs.Lexemes.{lexemes}
 use Rattle.texts.specs.KernelGrammar.{IsKernel}
 use Rattle.texts.specs.KernelLimits.{IsWithinLimits}
-use Rattle.texts.specs.Elaboration.{elaborate}
+use Rattle.types.specs.Elaboration.{elaborate}
 use Rattle.kernel_names.specs.NameMap.{names_of}
 use Rattle.reading.specs.Kernels.{Kernel, Source}
 

@@ -4,7 +4,7 @@
 #![tactic(auto)]
 
 ghost use Rattle.std.specs.Prelude.{◌≡◌};
-ghost use Rattle.texts.specs.Scope.{Bits32};
+ghost use Rattle.types.specs.Scope.{Bits32};
 ghost use Rattle.reading.specs.Kernels.{read, text_for};
 ghost use Rattle.reading.specs.Answers.{Gives};
 ghost use Rattle.reading.specs.Sources.{source};
@@ -17,7 +17,7 @@ use thiserror::Error;
 use types::check::check_types;
 use types::devices::Devices;
 use types::error::TypeError;
-use types::typed::Typed;
+use types::typed::TypedTree;
 
 pub mod laws;
 
@@ -77,7 +77,7 @@ pub fn narrow(bytes: &[u8]) -> Source<'_>
 
 /// The kernel of a text, typed, or its first fault with its place (numbers 1 to 5, 10 to 12, 20 to 28).
 #[tactic(auto, using(crate::proofs::Lexemes::lexemes_seen), unfolding(crate::specs::Kernels::read))]
-pub fn read_source(alloc: Global, text: Source<'_>) -> Result<Typed, KernelError>
+pub fn read_source(alloc: Global, text: Source<'_>) -> Result<TypedTree, KernelError>
     ensures { Gives result (read (source text.entry)) }
 {
     let tokens = match lex(alloc, text.bytes) {
@@ -95,7 +95,7 @@ pub fn read_source(alloc: Global, text: Source<'_>) -> Result<Typed, KernelError
 }
 
 /// The kernel of a text that is read for the devices with 32 address bits.
-pub fn read_kernel(alloc: Global, bytes: &[u8]) -> Result<Typed, KernelError>
+pub fn read_kernel(alloc: Global, bytes: &[u8]) -> Result<TypedTree, KernelError>
     ensures { Gives result (read (text_for Bits32 bytes.now)) }
 {
     read_source(alloc, narrow(bytes))

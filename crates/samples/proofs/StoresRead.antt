@@ -8,9 +8,9 @@ use Rattle.plain_kernels.specs.Kernels.{Alone, Times, Plus, TimesPlus, Number, B
 use Rattle.texts.specs.Signs.{signs}
 use Rattle.texts.specs.Reserved.{reserved_words}
 use Rattle.texts.specs.Limits.{within_limits}
-use Rattle.texts.specs.Scope.{Bits32, reserved_names, called_names, is_taken}
-use Rattle.texts.specs.Typing.{type_of, types_of, function_named, left_out_names, is_left_out}
-use Rattle.texts.specs.Elaboration.{elaborate_assignment, elaborate_declaration, elaborate_statement, elaborate_all, elaborate_inside, elaborate}
+use Rattle.types.specs.Scope.{Bits32, reserved_names, called_names, is_taken}
+use Rattle.types.specs.Typing.{type_of, types_of, function_named, left_out_names, is_left_out}
+use Rattle.types.specs.Elaboration.{elaborate_assignment, elaborate_declaration, elaborate_statement, elaborate_all, elaborate_inside, elaborate}
 use Rattle.parser.specs.Expressions.{chain, ranked, more_arguments, arguments, inside, operand_reader, expression_reader}
 use Rattle.parser.specs.Heads.{ended}
 use Rattle.parser.specs.Kernels.{buffer_reader, value_reader, parameter_reader, more_parameters, parameters_reader, sizes_reader, attribute_reader, kernel_reader}

@@ -4,8 +4,8 @@ use Rattle.semantics.specs.Word.{Kind, Int, Uint, Add, Multiply}
 use Rattle.semantics.specs.Core as core
 use Rattle.semantics.specs.Launch as launch
 use Rattle.texts.specs.Surface.{InfixSign, Arithmetic, AssignSign, Plain, With, Expression, Number, Name, Element, Call, Infix, Expressions, nothing, also, Statement, Declare, DeclareArray, Assign, Block, Statements, none, one, Parameter, Buffer, Value, Kernel}
-use Rattle.texts.specs.TypeFaults.{Checked}
-use Rattle.texts.specs.Scope.{Binding, VariableAt}
+use Rattle.types.specs.TypeFaults.{Checked}
+use Rattle.types.specs.Scope.{Binding, VariableAt}
 use Rattle.samples.specs.Terms.{at}
 
 abbrev pub name : List ℕ → Expression

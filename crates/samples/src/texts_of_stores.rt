@@ -2,7 +2,7 @@
 
 ghost use Rattle.std.specs.Prelude.{◌≡◌, pos, Ok, []};
 ghost use Rattle.semantics.specs.Conditions.{Conditions};
-ghost use Rattle.texts.specs.Scope.{Bits32};
+ghost use Rattle.types.specs.Scope.{Bits32};
 ghost use Rattle.reading.specs.Kernels.{read, text_for};
 ghost use Rattle.reading.specs.Texts.{IsTextOf};
 ghost use Rattle.plain_kernels.specs.Kernels.{IsPlain};

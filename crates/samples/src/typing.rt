@@ -5,10 +5,10 @@ ghost use Rattle.semantics.specs.Word.{Int, Uint, Size, Add, Multiply, Divide, L
 ghost use Rattle.semantics.specs.Word as word;
 ghost use Rattle.semantics.specs.Core as core;
 ghost use Rattle.texts.specs.Surface.{Arithmetic, Comparison, LeftShift, RightShift, Conditional};
-ghost use Rattle.texts.specs.TypeFaults.{UnknownName, NameTwice, WrongType, WriteToConst, LoadInCompoundIndex, ArrayInBlock, refused};
-ghost use Rattle.texts.specs.Scope.{Bits32, Any};
-ghost use Rattle.texts.specs.Typing.{typed, type_of};
-ghost use Rattle.texts.specs.Elaboration.{elaborate};
+ghost use Rattle.types.specs.TypeFaults.{UnknownName, NameTwice, WrongType, WriteToConst, LoadInCompoundIndex, ArrayInBlock, refused};
+ghost use Rattle.types.specs.Scope.{Bits32, Any};
+ghost use Rattle.types.specs.Typing.{typed, type_of};
+ghost use Rattle.types.specs.Elaboration.{elaborate};
 ghost use Rattle.samples.specs.Terms.{at, buffer};
 ghost use Rattle.samples.specs.Surface.{mixed, siblings, own_initialiser, shadowed, constant, loaded_index, inner_array, named, renamed, hidden, name, number, variables, global_id, id_beside, least, declared_by_id, arguments_of, body_of, variables_of};
 

@@ -5,11 +5,11 @@ use Rattle.semantics.specs.Word.{Kind}
 use Rattle.semantics.specs.Core as core
 use Rattle.semantics.specs.Core.{Site}
 use Rattle.texts.specs.Surface.{Arithmetic, LeftShift, RightShift, AssignSign, Plain, With, WithLeftShift, WithRightShift, Expression, Declaration, Assignment, First, FirstDeclares, FirstAssigns}
-use Rattle.texts.specs.TypeFaults.{UnknownName, LoadInCompoundIndex, WriteToConst, then, when, found}
-use Rattle.texts.specs.Scope.{Meaning, VariableAt, ArrayAt, Scope, meaning_of, declare_variable}
-use Rattle.texts.specs.Typing.{TypedTerm, typed, bring, type_of}
-use Rattle.texts.specs.Elaboration.{Elaborated, elaborated, single, assigned, first_load, without_load, site_or, target_array, target_slot, assign_to, elaborate_assignment, elaborate_declaration, elaborate_first}
-use Rattle.shown_kernels.specs.Declared.{Declared, Within, AllWithin}
+use Rattle.types.specs.TypeFaults.{UnknownName, LoadInCompoundIndex, WriteToConst, then, when, found}
+use Rattle.types.specs.Scope.{Meaning, VariableAt, ArrayAt, Scope, meaning_of, declare_variable}
+use Rattle.types.specs.Typing.{TypedTerm, typed, bring, type_of}
+use Rattle.types.specs.Elaboration.{Elaborated, elaborated, single, assigned, first_load, without_load, site_or, target_array, target_slot, assign_to, elaborate_assignment, elaborate_declaration, elaborate_first}
+use Rattle.sound_cores.specs.Declarations.{Declared, Within, AllWithin}
 use Rattle.shown_kernels.proofs.Holding.{Holds, then-holds, when-holds}
 use Rattle.shown_kernels.proofs.Growing.{Grows, grows-same, term-grows}
 use Rattle.shown_kernels.proofs.Scoping.{declared_in, IsThere, AreSeen, found-there, NextSlot, variable-declared}

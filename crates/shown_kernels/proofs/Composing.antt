@@ -2,12 +2,12 @@
 use Rattle.std.proofs.Common.{◌≡◌, ℕ, ◌+◌, ◌≤◌, ◌<◌, List, [], ◌∷◌, ◌++◌, arith, refl, sym, subst, inl, inr}
 use Rattle.std.specs.Prelude.{Some}
 use Rattle.semantics.specs.Core.{Term, Statement, Set, Store, If, Loop, Barrier, Return, Break, Continue, Statements, none}
-use Rattle.texts.specs.Elaboration.{single, join}
+use Rattle.types.specs.Elaboration.{single, join}
 use Rattle.arrivals.specs.Points.{Has}
 use Rattle.lanes.specs.Order.{Numbered}
-use Rattle.shown_kernels.specs.Told.{numbers_of, numbers_in, NoneTwice, Assigns, AllAssign}
-use Rattle.shown_kernels.proofs.Lists.{Apart, once-join, both-have}
-use Rattle.shown_kernels.proofs.Forming.{assigns-placed}
+use Rattle.sound_cores.specs.Told.{numbers_of, numbers_in, NoneTwice, Assigns, AllAssign}
+use Rattle.sound_cores.proofs.Lists.{Apart, once-join, both-have}
+use Rattle.sound_cores.proofs.Forming.{assigns-placed}
 use Rattle.shown_kernels.proofs.Ordering.{Ordered, innermost, has-from, wider, nothing-ordered, joins}
 
 -- a statement alone

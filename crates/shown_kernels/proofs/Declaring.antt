@@ -7,11 +7,11 @@ use Rattle.semantics.specs.Core as core
 use Rattle.semantics.specs.Core.{Site}
 use Rattle.semantics.specs.Launch as launch
 use Rattle.texts.specs.Surface.{JumpWord, Return, Break, Continue, Statement, Declare, DeclareArray, Assign, If, While, For, Barrier, Jump, Block, Statements, none, one, Kernel}
-use Rattle.texts.specs.TypeFaults.{NameTwice, ArrayInBlock, JumpOutsideLoop, then, when, found}
-use Rattle.texts.specs.Scope.{Devices, Scope, empty_scope, leave_block, may_name_kernel, declare_array}
-use Rattle.texts.specs.Typing.{type_of}
-use Rattle.texts.specs.Elaboration.{Elaborated, elaborated, single, join, elaborate_assignment, elaborate_first, barrier_of, Around, InKernel, InLoop, is_in_kernel, inside, innermost_loop, jump_to, elaborate_statement, elaborate_all, declare_parameters, elaborate_inside, elaborate}
-use Rattle.shown_kernels.specs.Declared.{Declared, declared_by, Within, AllWithin}
+use Rattle.types.specs.TypeFaults.{NameTwice, ArrayInBlock, JumpOutsideLoop, then, when, found}
+use Rattle.types.specs.Scope.{Devices, Scope, empty_scope, leave_block, may_name_kernel, declare_array}
+use Rattle.types.specs.Typing.{type_of}
+use Rattle.types.specs.Elaboration.{Elaborated, elaborated, single, join, elaborate_assignment, elaborate_first, barrier_of, Around, InKernel, InLoop, is_in_kernel, inside, innermost_loop, jump_to, elaborate_statement, elaborate_all, declare_parameters, elaborate_inside, elaborate}
+use Rattle.sound_cores.specs.Declarations.{Declared, declared_by, Within, AllWithin}
 use Rattle.shown_kernels.proofs.Holding.{Holds, then-holds, then-any, held}
 use Rattle.shown_kernels.proofs.Numbering.{barrier-holds}
 use Rattle.shown_kernels.proofs.Growing.{Grows, grows-on, term-grows, statement-grows, all-grow, join-within}

@@ -6,10 +6,10 @@ use Rattle.semantics.specs.Core as core
 use Rattle.semantics.specs.Core.{Site, Array}
 use Rattle.semantics.specs.Launch as launch
 use Rattle.texts.specs.Surface.{Arithmetic, LeftShift, RightShift, Comparison, LogicalAnd, LogicalOr, AssignSign, Plain, With, WithLeftShift, WithRightShift, Expression, Number, Name, Element, Call, Prefix, Cast, Infix, Conditional, Declaration, Assignment, First, FirstDeclares, FirstAssigns, JumpWord, Return, Break, Continue, Statement, Declare, DeclareArray, Assign, If, While, For, Barrier, Jump, Block, Statements, none, one, Kernel, site_of}
-use Rattle.texts.specs.TypeFaults.{UnknownName, NameTwice, LoadInCompoundIndex, ArrayInBlock, BarrierFlags, JumpOutsideLoop, then, when, found}
-use Rattle.texts.specs.Scope.{Devices, Meaning, Scope, empty_scope, meaning_of, leave_block, may_name_kernel, declare_variable, declare_array}
-use Rattle.texts.specs.Typing.{TypedTerm, typed, bring, type_of}
-use Rattle.texts.specs.Elaboration.{Elaborated, elaborated, single, join, assigned, first_load, without_load, site_or, target_array, target_slot, assign_to, elaborate_assignment, elaborate_declaration, elaborate_first, one_flag, barrier_of, Around, InKernel, InLoop, is_in_kernel, inside, innermost_loop, jump_to, elaborate_statement, elaborate_all, declare_parameters, elaborate_inside, elaborate}
+use Rattle.types.specs.TypeFaults.{UnknownName, NameTwice, LoadInCompoundIndex, ArrayInBlock, BarrierFlags, JumpOutsideLoop, then, when, found}
+use Rattle.types.specs.Scope.{Devices, Meaning, Scope, empty_scope, meaning_of, leave_block, may_name_kernel, declare_variable, declare_array}
+use Rattle.types.specs.Typing.{TypedTerm, typed, bring, type_of}
+use Rattle.types.specs.Elaboration.{Elaborated, elaborated, single, join, assigned, first_load, without_load, site_or, target_array, target_slot, assign_to, elaborate_assignment, elaborate_declaration, elaborate_first, one_flag, barrier_of, Around, InKernel, InLoop, is_in_kernel, inside, innermost_loop, jump_to, elaborate_statement, elaborate_all, declare_parameters, elaborate_inside, elaborate}
 use Rattle.texts.specs.Spelling.{SpellsExpression, SpellsIndex, SpellsDeclaration, SpellsAssignment, SpellsFirst, SpellsStatement, SpellsStatements}
 use Rattle.work_item.specs.Proper.{is_proper_term, is_proper_statement, are_proper}
 use Rattle.shown_kernels.proofs.Holding.{Holds, then-holds, then-any, when-holds, held, both}

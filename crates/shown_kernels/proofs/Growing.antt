@@ -2,8 +2,8 @@
 use Rattle.std.proofs.Common.{ℕ, ◌≤◌, arith}
 use Rattle.semantics.specs.Core as core
 use Rattle.semantics.specs.Core.{Space, Global, Local, Term, Literal, Variable, Id, Load, Unary, Binary, Convert, Compare, Not, And, Or, Select, Minimum, Maximum, Shift, Opaque, Statement, Set, Store, If, Loop, Barrier, Return, Break, Continue, Statements, none, one}
-use Rattle.texts.specs.Elaboration.{join}
-use Rattle.shown_kernels.specs.Declared.{Declared, IsOf, TermWithin, Within, AllWithin}
+use Rattle.types.specs.Elaboration.{join}
+use Rattle.sound_cores.specs.Declarations.{Declared, IsOf, TermWithin, Within, AllWithin}
 
 pub record Grows (d e : Declared) : Type 0 where
   pub slots : d.slots ≤ e.slots

@@ -2,7 +2,7 @@
 use Rattle.std.proofs.Common.{◌≡◌, Bool, true, false, ◌&&◌, subst}
 use Rattle.std.specs.Prelude.{Ok, Err}
 use Rattle.semantics.specs.Core.{Site}
-use Rattle.texts.specs.TypeFaults.{TypeFault, Checked, then, when}
+use Rattle.types.specs.TypeFaults.{TypeFault, Checked, then, when}
 
 abbrev pub Holds : {A : Type 0} → (A → Type 0) → Checked A → Type 0
 Holds P (Ok a) = P a

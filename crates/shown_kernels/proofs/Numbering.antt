@@ -7,13 +7,13 @@ use Rattle.semantics.specs.Core.{Site}
 use Rattle.semantics.specs.Launch as launch
 use Rattle.texts.specs.Surface.{Arithmetic, LeftShift, RightShift, Comparison, LogicalAnd, LogicalOr, Expression, Number, Name, Element, Call, Prefix, Cast, Infix, Conditional, Declaration, Assignment, First, FirstDeclares, FirstAssigns, JumpWord, Return, Break, Continue, Statement, Declare, DeclareArray, Assign, If, While, For, Barrier, Jump, Block, Statements, none, one, Kernel, site_of}
 use Rattle.texts.specs.KernelLimits.{statements_in, statements_of}
-use Rattle.texts.specs.TypeFaults.{UnknownName, NameTwice, LoadInCompoundIndex, ArrayInBlock, BarrierFlags, then, when, found}
-use Rattle.texts.specs.Scope.{Devices, Meaning, Scope, empty_scope, meaning_of, leave_block, may_name_kernel, declare_variable, declare_array}
+use Rattle.types.specs.TypeFaults.{UnknownName, NameTwice, LoadInCompoundIndex, ArrayInBlock, BarrierFlags, then, when, found}
+use Rattle.types.specs.Scope.{Devices, Meaning, Scope, empty_scope, meaning_of, leave_block, may_name_kernel, declare_variable, declare_array}
 use Rattle.texts.specs.Spelling.{IsNumbered, AreNumbered, first_number}
-use Rattle.texts.specs.Typing.{typed, bring, type_of}
-use Rattle.texts.specs.Elaboration.{Elaborated, elaborated, single, join, assigned, first_load, without_load, site_or, target_array, target_slot, assign_to, elaborate_assignment, elaborate_declaration, elaborate_first, one_flag, barrier_of, Around, InKernel, InBlock, InLoop, is_in_kernel, inside, innermost_loop, jump_to, elaborate_statement, elaborate_all, declare_parameters, elaborate_inside, elaborate}
+use Rattle.types.specs.Typing.{typed, bring, type_of}
+use Rattle.types.specs.Elaboration.{Elaborated, elaborated, single, join, assigned, first_load, without_load, site_or, target_array, target_slot, assign_to, elaborate_assignment, elaborate_declaration, elaborate_first, one_flag, barrier_of, Around, InKernel, InBlock, InLoop, is_in_kernel, inside, innermost_loop, jump_to, elaborate_statement, elaborate_all, declare_parameters, elaborate_inside, elaborate}
 use Rattle.lanes.specs.Order.{AllNumbered}
-use Rattle.shown_kernels.specs.Told.{AreTold}
+use Rattle.sound_cores.specs.Told.{AreTold}
 use Rattle.shown_kernels.proofs.Holding.{Holds, then-holds, then-any, when-holds, held}
 use Rattle.shown_kernels.proofs.Mapping.{mapped}
 use Rattle.shown_kernels.proofs.Ordering.{Ordered, innermost, wider, nothing-ordered, follows}

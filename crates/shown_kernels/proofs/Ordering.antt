@@ -2,11 +2,11 @@
 use Rattle.std.proofs.Common.{◌≡◌, ℕ, ◌+◌, ◌≤◌, ◌<◌, List, [], ◌∷◌, ◌++◌, arith, refl, sym, ap, ◌∙◌, subst, inl, inr, append_assoc}
 use Rattle.std.specs.Prelude.{Option, Some, None}
 use Rattle.semantics.specs.Core.{Statement, Set, Store, If, Loop, Barrier, Return, Break, Continue, Statements, none, one}
-use Rattle.texts.specs.Elaboration.{join}
+use Rattle.types.specs.Elaboration.{join}
 use Rattle.arrivals.specs.Points.{Has}
 use Rattle.lanes.specs.Order.{Numbered, AllNumbered}
-use Rattle.shown_kernels.specs.Told.{numbers_of, numbers_in, NoneTwice, ArePlaced}
-use Rattle.shown_kernels.proofs.Lists.{Apart, once-join, both-have}
+use Rattle.sound_cores.specs.Told.{numbers_of, numbers_in, NoneTwice, ArePlaced}
+use Rattle.sound_cores.proofs.Lists.{Apart, once-join, both-have}
 
 abbrev pub innermost : List ℕ → Option ℕ
 innermost [] = None

@@ -1,22 +1,25 @@
 -- What is read of bytes is proper.
-use Rattle.std.proofs.Common.{◌≡◌, ◌≤◌, ◌<◌, ◌*◌, ℕ, zero, suc, List, true, arith, refl, sym, subst, nat_lt}
+use Rattle.std.proofs.Common.{◌≡◌, ◌≤◌, ◌<◌, ◌*◌, ℕ, zero, suc, List, true, arith, refl, sym, subst, nat_lt, inl, inr}
 use Rattle.std.specs.Prelude.{nat_le, Result, Ok, Err, IfOk}
 use Rattle.std.proofs.lemmas.Bool.Decides.{nat_tests}
 use Rattle.semantics.specs.Launch.{Three, product}
 use Rattle.semantics.specs.Launch as launch
 use Rattle.texts.specs.Surface as surface
-use Rattle.texts.specs.TypeFaults.{NameTwice, when}
-use Rattle.texts.specs.Scope.{Devices, empty_scope, may_name_kernel}
-use Rattle.texts.specs.Elaboration.{InKernel, elaborate_inside, elaborate, elaborate_all, declare_parameters}
+use Rattle.types.specs.TypeFaults.{NameTwice, when}
+use Rattle.types.specs.Scope.{Devices, empty_scope, may_name_kernel}
+use Rattle.types.specs.Elaboration.{InKernel, elaborate_inside, elaborate, elaborate_all, declare_parameters}
 use Rattle.texts.specs.KernelLimits.{IsLocalSize}
-use Rattle.reading.specs.Kernels.{Kernel, Source, read}
+use Rattle.reading.specs.Kernels as plain
 use Rattle.reading.proofs.Grammatical.{read-sound, read-tree}
+use Rattle.kernel_reading.specs.Kernels.{Kernel, Source, as_plain, read}
+use Rattle.kernel_reading.proofs.KernelReads.{read-either}
+use Rattle.opencl_reading.proofs.Sound.{written-proper}
 use Rattle.work_item.specs.Proper.{are_sizes, are_proper, is_proper}
 use Rattle.shown_kernels.proofs.Holding.{Holds, then-any, held, both}
 use Rattle.core_code.specs.View.{kernel}
-use Rattle.types.specs.TypedKernel.{TypedKernel}
-use Rattle.reading.specs.Answers.{Gives, kernel_seen}
-use Rattle.reading.specs.declared.KernelError.{KernelError}
+use Rattle.typed_kernels.specs.TypedKernel.{TypedKernel}
+use Rattle.kernel_reading.specs.Answers.{Gives, kernel_seen}
+use Rattle.kernel_reading.specs.declared.KernelError.{KernelError}
 use Rattle.shown_kernels.proofs.Elaborating.{elaborated-proper}
 
 above : (a b : ℕ) → 1 ≤ a → 1 ≤ b → 1 ≤ a * b
@@ -42,13 +45,21 @@ sizes-fit t x y z p =
     some : (a : ℕ) → 0 < a → nat_lt 0 a ≡ true
     some a h = grind (arith, nat_tests)
 
-pub read-proper : (s : Source) (k : Kernel) → read s ≡ Ok k → is_proper k.core ≡ true
-read-proper s k h =
+plain-proper : (s : plain.Source) (k : plain.Kernel) → plain.read s ≡ Ok k → is_proper k.core ≡ true
+plain-proper s k h =
     let t = read-sound s k h in
     let z = t.within_limits.1.local_sizes in
     both (are_sizes k.core.sizes) (are_proper k.core.body)
     (subst (λ n. are_sizes n ≡ true) (sym (held (λ (x : launch.Kernel). x.sizes ≡ k.tree.sizes) (elaborate s.devices k.tree) k.core t.is_typed (core-sizes s.devices k.tree))) (sizes-fit k.tree.sizes z.0 z.1 z.2 z.3))
     (elaborated-proper s.devices k.tree k.core (read-tree s k h).body t.is_typed)
+
+pub read-proper : (s : Source) (k : Kernel) → read s ≡ Ok k → is_proper k.core ≡ true
+read-proper s k h =
+    let e = read-either s k h in
+    elim e.2 [
+      | inl p ↦ subst (λ x. is_proper x.core ≡ true) p.2 (plain-proper (as_plain s) p.0 p.1)
+      | inr w ↦ subst (λ x. is_proper x.core ≡ true) w.4 (written-proper s.reading.devices e.0 s.bytes w.0 w.3)
+    ]
 
 pub answers_proper : (r : Result TypedKernel KernelError) (s : Source) → Gives r (read s) → IfOk r (λ t. is_proper (kernel t.1) ≡ true)
 answers_proper (Ok t) s h = read-proper s (kernel_seen t) h

@@ -6,10 +6,10 @@ use Rattle.semantics.specs.Word.{Kind}
 use Rattle.semantics.specs.Core.{Site, Global, Local}
 use Rattle.semantics.specs.Launch.{LocalArray}
 use Rattle.texts.specs.Surface.{Parameter, Buffer, Value}
-use Rattle.texts.specs.TypeFaults.{UnknownName, NameTwice, found}
-use Rattle.texts.specs.Scope.{Meaning, VariableAt, ArrayAt, Binding, Scope, meaning_of, may_declare, bind, declare_variable, declare_buffer, declare_array}
-use Rattle.texts.specs.Elaboration.{declare_parameter, declare_parameters}
-use Rattle.shown_kernels.specs.Declared.{Declared, HasArray}
+use Rattle.types.specs.TypeFaults.{UnknownName, NameTwice, found}
+use Rattle.types.specs.Scope.{Meaning, VariableAt, ArrayAt, Binding, Scope, meaning_of, may_declare, bind, declare_variable, declare_buffer, declare_array}
+use Rattle.types.specs.Elaboration.{declare_parameter, declare_parameters}
+use Rattle.sound_cores.specs.Declarations.{Declared, HasArray}
 use Rattle.shown_kernels.proofs.Holding.{Holds, then-holds, when-holds}
 use Rattle.shown_kernels.proofs.Mapping.{mapped}
 use Rattle.shown_kernels.proofs.Growing.{Grows, array-grows}

@@ -5,10 +5,10 @@ use Rattle.semantics.specs.Word.{Kind, Int, Uint, Size, Operator, Multiply, Divi
 use Rattle.semantics.specs.Core as core
 use Rattle.semantics.specs.Core.{Site, Array, Function, Term}
 use Rattle.texts.specs.Surface.{PrefixSign, Minus, LogicalNot, BitNot, InfixSign, Arithmetic, LeftShift, RightShift, Comparison, LogicalAnd, LogicalOr, Expression, Number, Name, Element, Call, Prefix, Cast, Infix, Conditional, Expressions, nothing, also}
-use Rattle.texts.specs.TypeFaults.{Checked, UnknownName, WrongType, LeftOutWord, refused, then, found}
-use Rattle.texts.specs.Scope.{Devices, size_kind, Meaning, VariableAt, ArrayAt, Binding, meaning_of}
-use Rattle.texts.specs.Typing.{TypedTerm, typed, common, brought, bring, variable_term, array_of, prefix_term, shift_count, shifted, shift_term, widened, operand, infix_term, conditional_term, function_named, is_left_out, has_dimension, id_term, same_kind, pick_term, are_two, call_other, call_term, type_of, types_of}
-use Rattle.shown_kernels.specs.Declared.{Declared, HasArray, TermWithin}
+use Rattle.types.specs.TypeFaults.{Checked, UnknownName, WrongType, LeftOutWord, refused, then, found}
+use Rattle.types.specs.Scope.{Devices, size_kind, Meaning, VariableAt, ArrayAt, Binding, meaning_of}
+use Rattle.types.specs.Typing.{TypedTerm, typed, common, brought, bring, variable_term, array_of, prefix_term, shift_count, shifted, shift_term, widened, operand, infix_term, conditional_term, function_named, is_left_out, has_dimension, id_term, same_kind, pick_term, are_two, call_other, call_term, type_of, types_of}
+use Rattle.sound_cores.specs.Declarations.{Declared, HasArray, TermWithin}
 use Rattle.shown_kernels.proofs.Holding.{Holds, then-holds, when-holds}
 use Rattle.shown_kernels.proofs.Scoping.{IsThere, AreThere, found-there}
 

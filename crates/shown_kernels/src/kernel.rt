@@ -2,14 +2,14 @@
 
 ghost use Rattle.std.specs.Prelude.{◌≡◌, true, IfOk};
 ghost use Rattle.core_code.specs.View.{kernel as core_seen};
-ghost use Rattle.reading.specs.Answers.{Gives};
-ghost use Rattle.reading.specs.Kernels.{read};
-ghost use Rattle.reading.specs.Sources.{source};
+ghost use Rattle.kernel_reading.specs.Answers.{Gives};
+ghost use Rattle.kernel_reading.specs.Kernels.{read};
+ghost use Rattle.kernel_reading.specs.Sources.{source};
 ghost use Rattle.work_item.specs.Proper.{is_proper};
 
-use reading::{KernelError, Source, read_source};
+use kernel_reading::{KernelError, Source, read_source};
 use std::alloc::Global;
-use types::typed::Typed;
+use typed_kernels::Typed;
 
 /// The kernel of a text, typed, or its first fault with its place. Its core is proper.
 #[tactic(auto, using(crate::proofs::ProperReads::answers_proper))]

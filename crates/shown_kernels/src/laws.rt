@@ -14,7 +14,7 @@ ghost use Rattle.obligations.specs.Notes.{Notes};
 ghost use Rattle.obligations.specs.Telling.{TellsOfItems};
 ghost use Rattle.obligations.specs.Limits.{turns_at, AreLimits};
 ghost use Rattle.obligations.specs.Shown.{obligations};
-ghost use Rattle.reading.specs.Kernels.{Kernel, Source, read};
+ghost use Rattle.kernel_reading.specs.Kernels.{Kernel, Source, read};
 
 use crate::proper::what_is_read_is_proper;
 pub use crate::ranked::{noted_rankings_are_limits, noted_rankings_have_their_turns};

@@ -3,10 +3,10 @@
 ghost use Rattle.std.specs.Prelude.{◌≡◌, true, Ok};
 ghost use Rattle.texts.specs.Surface as surface;
 ghost use Rattle.texts.specs.Spelling.{SpellsStatements};
-ghost use Rattle.texts.specs.Scope.{Devices};
-ghost use Rattle.texts.specs.Elaboration.{elaborate};
+ghost use Rattle.types.specs.Scope.{Devices};
+ghost use Rattle.types.specs.Elaboration.{elaborate};
 ghost use Rattle.semantics.specs.Launch as launch;
-ghost use Rattle.reading.specs.Kernels.{Kernel, Source, read};
+ghost use Rattle.kernel_reading.specs.Kernels.{Kernel, Source, read};
 ghost use Rattle.work_item.specs.Proper.{are_proper, is_proper};
 
 /// A tree's numbers are of their kinds, so its core's statements are proper, whatever devices it is typed for.

@@ -1,7 +1,6 @@
 //! What is read is numbered as in the source, its numbers tell its statements apart, and it names what it declares.
 
 ghost use Rattle.std.specs.Prelude.{◌≡◌, ℕ, ◌+◌, [], Ok, None};
-ghost use Rattle.semantics.specs.Core.{Statements};
 ghost use Rattle.semantics.specs.Launch.{Kernel as Core};
 ghost use Rattle.semantics.specs.Setup.{Setup};
 ghost use Rattle.arrivals.specs.Loops.{unmet};
@@ -10,19 +9,13 @@ ghost use Rattle.arrivals.specs.Shown.{IsSound};
 ghost use Rattle.texts.specs.Surface.{Kernel as Tree};
 ghost use Rattle.texts.specs.KernelLimits.{statements_of};
 ghost use Rattle.texts.specs.Spelling.{AreNumbered};
-ghost use Rattle.texts.specs.Scope.{Devices};
-ghost use Rattle.texts.specs.Elaboration.{elaborate};
-ghost use Rattle.reading.specs.Kernels.{Kernel, Source, read};
-ghost use Rattle.shown_kernels.specs.Declared.{declared_by, AllWithin};
+ghost use Rattle.types.specs.Scope.{Devices};
+ghost use Rattle.types.specs.Elaboration.{elaborate};
+ghost use Rattle.kernel_reading.specs.Kernels.{Kernel, Source, read};
+ghost use Rattle.sound_cores.specs.Declarations.{declared_by, AllWithin};
 ghost use Rattle.lanes.specs.Lowering.{IsOrderly};
 ghost use Rattle.lanes.specs.Order.{AllNumbered};
-ghost use Rattle.shown_kernels.specs.Told.{AreTold};
-
-/// Statements that are told apart are formed, and their numbers tell their points apart.
-pub fn what_is_told_apart_is_formed()
-    ensures formed { (ss : Statements) → AreTold ss → AreFormed ss }
-    ensures numbered { (ss : Statements) → AreTold ss → IsNumbered (points ss []) }
-{}
+ghost use Rattle.sound_cores.specs.Told.{AreTold};
 
 /// A tree's statements are numbered from 1 in the order of the source, so its core's numbers lie as in the source, and tell its
 /// statements apart.

@@ -1,5 +1,5 @@
 -- What the code's kernel, conditions, launch and buffers are in the promise.
-use Rattle.reading.specs.Kernels.{Source}
+use Rattle.kernel_reading.specs.Kernels.{Source}
 use Rattle.std.proofs.Common.{◌≡◌, ℕ, List, Bool, [], ◌∷◌, map, refl, ap, sym, ◌∙◌, subst}
 use Rattle.std.specs.Prelude.{Vec}
 use Rattle.std.specs.declared.alloc.Global.{Global}
@@ -8,16 +8,16 @@ use Rattle.semantics.specs.Setup.{at_launch, on_device}
 use Rattle.semantics.specs.Launch.{Fits}
 use Rattle.semantics.specs.Conditions.{Meets}
 use Rattle.semantics.specs.Rounds.{IsDefined}
-use Rattle.texts.specs.ConditionsReading.{meant}
-use Rattle.texts.specs.ConditionsText.{IsConditionsText}
-use Rattle.texts.specs.LaunchSpelling.{IsLaunchText}
-use Rattle.texts.specs.LaunchReading as given
-use Rattle.texts.specs.LaunchReading.{number}
-use Rattle.texts.specs.LaunchText.{buffers_text}
+use Rattle.launch_text.specs.ConditionsReading.{meant}
+use Rattle.launch_text.specs.ConditionsText.{IsConditionsText}
+use Rattle.launch_text.specs.LaunchSpelling.{IsLaunchText}
+use Rattle.launch_text.specs.LaunchReading as given
+use Rattle.launch_text.specs.LaunchReading.{number}
+use Rattle.launch_text.specs.LaunchText.{buffers_text}
 use Rattle.words.specs.View.{word, value_of}
 use Rattle.words.specs.declared.word.Word.{Word}
 use Rattle.kernel_names.specs.View.{names_seen}
-use Rattle.types.specs.TypedKernel.{TypedKernel}
+use Rattle.typed_kernels.specs.TypedKernel.{TypedKernel}
 use Rattle.core_code.specs.View.{kernel as core_seen}
 use Rattle.launch.specs.View.{conditions as conditions_seen, launch as launch_seen, buffer}
 use Rattle.launch.specs.declared.conditions.Conditions.{Conditions}
@@ -26,8 +26,8 @@ use Rattle.launch.specs.declared.launches.Buffers.{Buffers}
 use Rattle.launch_text.specs.View as view
 use Rattle.launch_text.specs.View.{lined}
 use Rattle.launch_text.proofs.LeastFits.{conditions_meant, launch_meant}
-use Rattle.reading.specs.Answers.{kernel_seen}
-use Rattle.reading.specs.Texts.{IsTextOf}
+use Rattle.kernel_reading.specs.Answers.{kernel_seen}
+use Rattle.kernel_reading.specs.Texts.{IsTextOf}
 use Rattle.cert_check.specs.Accepting.{HasHeadline}
 use Rattle.write_log.specs.Written.{words_of}
 use Rattle.executor.specs.Ends.{IsResultOf, EndsEvery, HaveKinds}

@@ -1,12 +1,12 @@
 -- What the code's answers are in the promise.
-use Rattle.reading.specs.Kernels.{Source}
+use Rattle.kernel_reading.specs.Kernels.{Source}
 use Rattle.std.proofs.Common.{◌≡◌, refl}
 use Rattle.std.specs.Prelude.{ℕ, List, Bool, Option, Some, None, IfSome}
 use Rattle.semantics.specs.Launch as launches
 use Rattle.semantics.specs.Launch.{Launch, Fits}
 use Rattle.semantics.specs.Conditions.{Conditions, Meets}
-use Rattle.types.specs.TypedKernel.{TypedKernel}
-use Rattle.reading.specs.Answers.{kernel_seen}
+use Rattle.typed_kernels.specs.TypedKernel.{TypedKernel}
+use Rattle.kernel_reading.specs.Answers.{kernel_seen}
 use Rattle.cert_check.specs.Refusing.{IsPassedBy, RefusesBy}
 use Rattle.cert_check.specs.Numbers as checks
 use Rattle.cert_check.specs.declared.error.CheckError.{CheckError}

@@ -2,8 +2,8 @@
 use Rattle.std.proofs.Common.{inl, inr, subst}
 use Rattle.std.specs.Prelude.{◌≡◌, ℕ, List, Bool, false, Ok, Err}
 use Rattle.semantics.specs.Conditions as meaning
-use Rattle.texts.specs.LaunchReading.{launch_of}
-use Rattle.reading.specs.Kernels.{Kernel, Source}
+use Rattle.launch_text.specs.LaunchReading.{launch_of}
+use Rattle.kernel_reading.specs.Kernels.{Kernel, Source}
 use Rattle.launch.specs.View.{conditions as conditions_seen, launch as launch_seen}
 use Rattle.launch.specs.declared.conditions.Conditions.{Conditions}
 use Rattle.launch.specs.declared.launches.Launch.{Launch}
@@ -18,7 +18,7 @@ use Rattle.executor.specs.Numbers as runs
 use Rattle.executor.specs.Results.{Answers}
 use Rattle.executor.specs.declared.error.RunError.{RunError}
 use Rattle.executor.specs.declared.error.RunError.TheVariants.{Unreckoned}
-use Rattle.work_item.specs.Reckoned.{is_reckoned}
+use Rattle.semantics.specs.Machines.{is_reckoned}
 use Rattle.telling.specs.Telling.{AreSafeTexts}
 use Rattle.telling.specs.Verdicts.{IsRefusal, Checks, Runs}
 use Rattle.telling.specs.declared.Verdict.{Verdict}

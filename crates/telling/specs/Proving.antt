@@ -9,7 +9,7 @@ use Rattle.arrivals.specs.Loops.{unmet}
 use Rattle.launch.specs.Least.{probe}
 use Rattle.launch.specs.View.{conditions as conditions_seen}
 use Rattle.launch.specs.declared.conditions.Conditions.{Conditions}
-use Rattle.reading.specs.Kernels.{Kernel, Source}
+use Rattle.kernel_reading.specs.Kernels.{Kernel, Source}
 use Rattle.cert_check.specs.Breadth.{text_says}
 use Rattle.cert_check.specs.Checked.{PassesWith}
 use Rattle.findings.specs.Findings.{Finding}

@@ -1,5 +1,5 @@
 -- What is told where a certificate is looked for.
-use Rattle.reading.specs.Kernels.{Source}
+use Rattle.kernel_reading.specs.Kernels.{Source}
 use Rattle.std.specs.Prelude.{◌≡◌, ◌++◌, ℕ, List, Bool}
 use Rattle.std.specs.String.{string_bytes}
 use Rattle.telling.specs.Refusing.{IsRefusedText}

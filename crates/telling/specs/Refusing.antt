@@ -1,9 +1,11 @@
 -- What stands behind a line that refuses: its number and its place are those of an error that is true of the texts.
 use Rattle.std.specs.Prelude.{◌≡◌, ◌⊎◌, ℕ, List, Bool, false, Ok, Err, Option}
 use Rattle.semantics.specs.Conditions as meaning
-use Rattle.texts.specs.LaunchReading.{launch_of}
-use Rattle.reading.specs.Kernels.{Kernel, read, Source}
+use Rattle.launch_text.specs.LaunchReading.{launch_of}
+use Rattle.types.specs.Scope.{Bits32}
+use Rattle.reading.specs.Kernels.{read, text_for}
 use Rattle.reading.specs.Answers as kernels
+use Rattle.kernel_reading.specs.Kernels.{Kernel, Source}
 use Rattle.reading.specs.declared.KernelError.{KernelError}
 use Rattle.launch.specs.View.{conditions as conditions_seen, launch as launch_seen}
 use Rattle.launch.specs.declared.conditions.Conditions.{Conditions}
@@ -20,7 +22,7 @@ use Rattle.executor.specs.Numbers as runs
 use Rattle.executor.specs.Results.{Answers}
 use Rattle.executor.specs.declared.error.RunError.{RunError}
 use Rattle.executor.specs.declared.error.RunError.TheVariants.{Unreckoned}
-use Rattle.work_item.specs.Reckoned.{is_reckoned}
+use Rattle.semantics.specs.Machines.{is_reckoned}
 use Rattle.telling.specs.Refusals.{refusal_line, place_seen}
 use Rattle.telling.specs.Telling.{AreSafeTexts}
 
@@ -28,9 +30,9 @@ use Rattle.telling.specs.Telling.{AreSafeTexts}
 abbrev pub IsLineOf : (number : ℕ) → Option code.Pointer → (line : List ℕ) → Type 0
 IsLineOf number place line = line ≡ refusal_line number (place_seen place)
 
--- the text of the kernel is refused
-abbrev pub IsRefusedKernel : (kernel : Source) (line : List ℕ) → Type 0
-IsRefusedKernel kernel line = (e : KernelError) × kernels.Refuses e (read kernel) × IsLineOf (kernels.error_number e) (checks.at_place (kernels.error_place e)) line
+-- the bytes are refused, read for devices with 32 address bits
+abbrev pub IsRefusedKernel : (kernel line : List ℕ) → Type 0
+IsRefusedKernel kernel line = (e : KernelError) × kernels.Refuses e (read (text_for Bits32 kernel)) × IsLineOf (kernels.error_number e) (checks.at_place (kernels.error_place e)) line
 
 -- the check, which is the wide one or is not, refuses the texts
 abbrev pub IsRefusedText : (is_wide : Bool) → (kernel : Source) (conditions certificate line : List ℕ) → Type 0

@@ -7,12 +7,15 @@ use Rattle.semantics.specs.Conditions.{Conditions, Meets}
 use Rattle.semantics.specs.Setup.{Setup, at_launch, on_device}
 use Rattle.semantics.specs.Rounds.{IsDefined}
 use Rattle.texts.specs.Canonical.{canonical}
-use Rattle.texts.specs.ConditionsText.{IsConditionsText}
-use Rattle.texts.specs.LaunchReading.{number}
-use Rattle.texts.specs.LaunchSpelling.{IsLaunchText}
-use Rattle.texts.specs.LaunchText.{buffers_text}
-use Rattle.reading.specs.Kernels.{Kernel, Source}
-use Rattle.reading.specs.Texts.{IsTextOf}
+use Rattle.launch_text.specs.ConditionsText.{IsConditionsText}
+use Rattle.launch_text.specs.LaunchReading.{number}
+use Rattle.launch_text.specs.LaunchSpelling.{IsLaunchText}
+use Rattle.launch_text.specs.LaunchText.{buffers_text}
+use Rattle.types.specs.Scope.{Bits32}
+use Rattle.reading.specs.Kernels as plain
+use Rattle.reading.specs.Texts as plain_texts
+use Rattle.kernel_reading.specs.Kernels.{Kernel, Source}
+use Rattle.kernel_reading.specs.Texts.{IsTextOf}
 use Rattle.cert_check.specs.Accepting.{HasHeadline}
 use Rattle.executor.specs.Ends.{IsResultOf, EndsEvery, HaveKinds}
 
@@ -51,5 +54,5 @@ IsResultText is_wide kernel conditions launch written =
     (k : Kernel) × (c : Conditions) × (l : Launch) × (b : List (List Word)) × AreSafeTexts is_wide kernel conditions k c × IsRun k c launch written l b
 
 -- the bytes are the text of a kernel, by the grammar, and what is written is the canonical text of its tree
-abbrev pub IsPrintedText : (kernel : Source) (written : List ℕ) → Type 0
-IsPrintedText kernel written = (k : Kernel) × IsTextOf kernel k × (written ≡ canonical k.tree)
+abbrev pub IsPrintedText : (kernel written : List ℕ) → Type 0
+IsPrintedText kernel written = (k : plain.Kernel) × plain_texts.IsTextOf (plain.text_for Bits32 kernel) k × (written ≡ canonical k.tree)

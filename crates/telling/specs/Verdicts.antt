@@ -1,5 +1,5 @@
 -- What a verdict of the code says.
-use Rattle.reading.specs.Kernels.{Source}
+use Rattle.kernel_reading.specs.Kernels.{Source}
 use Rattle.std.specs.Prelude.{ℕ, List, Bool, Option}
 use Rattle.std.specs.String.{string_bytes}
 use Rattle.entry_check.specs.declared.error.Pointer as code
@@ -25,7 +25,7 @@ Runs is_wide (verdicts.Done text) workers kernel conditions certificate launch =
 Runs is_wide (verdicts.Refused line) workers kernel conditions certificate launch = IsUnanswered is_wide workers kernel conditions certificate launch (string_bytes line)
 Runs is_wide verdicts.OutOfMemory workers kernel conditions certificate launch = Unit {0}
 
-abbrev pub Prints : Verdict → (kernel : Source) → Type 0
+abbrev pub Prints : Verdict → (kernel : List ℕ) → Type 0
 Prints (verdicts.Done text) kernel = IsPrintedText kernel text.items
 Prints (verdicts.Refused line) kernel = IsRefusedKernel kernel (string_bytes line)
 Prints verdicts.OutOfMemory kernel = Unit {0}

@@ -4,8 +4,8 @@ ghost use Rattle.std.specs.Prelude.{◌≡◌, ℕ, List, Bool};
 ghost use Rattle.std.specs.String.{string_bytes};
 ghost use Rattle.cert_check.specs.Refusing.{RefusesBy};
 ghost use Rattle.proof_search.specs.Searching.{TellsOf};
-ghost use Rattle.reading.specs.Kernels as kernels;
-ghost use Rattle.reading.specs.Sources.{source};
+ghost use Rattle.kernel_reading.specs.Kernels as kernels;
+ghost use Rattle.kernel_reading.specs.Sources.{source};
 ghost use Rattle.telling.specs.ProvingVerdicts.{Explains, ExplainsCheck, GoesOn, GoesFurther};
 
 use crate::proving::{Proved, Sought, findings_of, found, unproved};
@@ -16,11 +16,11 @@ use cert_check::check_as;
 use cert_check::error::{CheckError, Pointer};
 use core_code::tree::Site;
 use explaining::{Cuts, Outlook, Refused, computes_with_sizes, explain, explain_sizes};
+use kernel_reading::laws::bytes_are_the_text_of_what_is_read;
+use kernel_reading::{Reading, Source};
 use launch::conditions::Conditions;
 use launch::probe::probe;
 use launch_text::laws::what_is_read_of_conditions_is_their_text;
-use reading::Source;
-use reading::laws::bytes_are_the_text_of_what_is_read;
 use std::alloc::{AllocError, Global};
 use std::sync::Wait;
 use std::thread::Threads;
@@ -132,7 +132,7 @@ fn followed(told: Vec<u8>, text: &str) -> Verdict
 
 /// Writes where an accepted kernel computes with sizes behind what is told of it, with what is said of it for any devices: the number of
 /// its refusal, or that it is accepted.
-fn going_further(alloc: Global, kernel: &[u8], refusal: Option<u8>, told: Vec<u8>) -> Verdict
+fn going_further(alloc: Global, kernel: Source<'_>, refusal: Option<u8>, told: Vec<u8>) -> Verdict
     ensures { GoesFurther told.items result }
 {
     let mut text = String::new(alloc);
@@ -151,7 +151,7 @@ fn as_told(told: Vec<u8>) -> Verdict
 
 /// The kernel is read for the devices with 32 address bits, and computes with sizes. Want of memory is taken as no.
 fn is_narrow(alloc: Global, kernel: Source<'_>) -> bool {
-    match (kernel.devices, computes_with_sizes(alloc, kernel.bytes)) {
+    match (kernel.reading.devices, computes_with_sizes(alloc, kernel)) {
         (Devices::Bits32, Ok(computes)) => computes,
         (Devices::Bits32, Err(_)) | (Devices::Any, _) => false,
     }
@@ -160,7 +160,11 @@ fn is_narrow(alloc: Global, kernel: Source<'_>) -> bool {
 /// The same text, read for any devices.
 fn for_any<'a>(kernel: Source<'a>) -> Source<'a> {
     Source {
-        devices: Devices::Any,
+        reading: Reading {
+            language: kernel.reading.language,
+            devices: Devices::Any,
+        },
+        conditions: kernel.conditions,
         bytes: kernel.bytes,
     }
 }
@@ -197,7 +201,7 @@ fn proved<R: Threads + Wait + Sync, W: Watcher>(
         return as_told(told);
     }
     let refusal = refusal_for_any(rt, alloc, kernel, conditions, effort, watcher);
-    going_further(alloc, kernel.bytes, refusal, told)
+    going_further(alloc, kernel, refusal, told)
 }
 
 /// Looks for a certificate as `prove` does, with one worker, and tells whoever watches how far the search is: `accepted`, or why there is
@@ -294,7 +298,7 @@ fn push_checked(
     }
     if is_narrow(alloc, texts.kernel) {
         let refusal = checked_refusal(alloc, texts, is_wide);
-        explain_sizes(alloc, texts.kernel.bytes, refusal, out)?;
+        explain_sizes(alloc, texts.kernel, refusal, out)?;
     }
     Ok(())
 }

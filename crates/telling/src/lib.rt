@@ -11,9 +11,7 @@ ghost use Rattle.launch_text.specs.Answers as launches;
 ghost use Rattle.cert_check.specs.Numbers as checks;
 ghost use Rattle.cert_check.specs.Numbers.{at_line};
 ghost use Rattle.executor.specs.Numbers as runs;
-ghost use Rattle.texts.specs.Scope.{Bits32};
-ghost use Rattle.reading.specs.Kernels.{text_for};
-ghost use Rattle.reading.specs.Sources.{source};
+ghost use Rattle.kernel_reading.specs.Sources.{source};
 ghost use Rattle.telling.specs.Verdicts.{Checks, Runs, Prints, IsRefusal};
 
 mod explained;
@@ -26,6 +24,8 @@ use cert_check::check_as;
 use cert_check::error::{CheckError, Pointer};
 use executor::{RunError, can_run_accepted, run};
 pub use explained::{explain_check, explain_texts};
+use kernel_reading::laws::bytes_are_the_text_of_what_is_read;
+use kernel_reading::{KernelError, Source};
 use launch_text::error::LaunchTextError;
 use launch_text::laws::{
     what_is_read_of_a_launch_is_its_text, what_is_read_of_conditions_is_their_text,
@@ -34,8 +34,7 @@ use launch_text::{read_launch, write_buffers};
 pub use migrating::migrate_text;
 use printer::print;
 pub use proving::{Sought, prove_texts};
-use reading::laws::bytes_are_the_text_of_what_is_read;
-use reading::{Source, read_kernel};
+use reading::{laws as tree_laws, read_kernel};
 pub use refusal::Refusal;
 use std::alloc::Global;
 use std::sync::Wait;
@@ -167,14 +166,14 @@ pub fn run_texts<R: Threads + Wait + Sync>(
 
 /// The canonical text of a kernel, or why the bytes are no kernel's text.
 pub fn print_text(alloc: Global, kernel: &[u8]) -> Verdict
-    ensures { Prints result (text_for Bits32 kernel.now) }
+    ensures { Prints result kernel.now }
 {
-    bytes_are_the_text_of_what_is_read();
-    let typed = match read_kernel(alloc, kernel) {
-        Ok(typed) => typed,
-        Err(error) => return unaccepted(alloc, &CheckError::Kernel(error)),
+    tree_laws::bytes_are_the_text_of_what_is_read();
+    let found = match read_kernel(alloc, kernel) {
+        Ok(found) => found,
+        Err(error) => return unaccepted(alloc, &CheckError::Kernel(KernelError::Plain(error))),
     };
-    match print(alloc, &typed) {
+    match print(alloc, &found.tree) {
         Ok(text) => Verdict::Done(text.into_bytes()),
         Err(_) => Verdict::OutOfMemory,
     }

@@ -2,8 +2,8 @@
 
 use explaining::{Cuts, Outlook, Proposal, Remedy, amended, may_be_met, part_paths, propose};
 use findings::Finding;
+use kernel_reading::Source;
 use proof_search::{Found, Left, find_watched, left_by};
-use reading::Source;
 use std::alloc::{AllocError, Global};
 use std::thread::Threads;
 use verify::{Effort, Watcher};
@@ -298,7 +298,8 @@ impl<'a, R: Threads + Sync, W: Watcher> Trials<'a, R, W> {
             return Ok(None);
         };
         let parted = Source {
-            devices: self.kernel.devices,
+            reading: self.kernel.reading,
+            conditions: self.kernel.conditions,
             bytes: text.as_slice(),
         };
         let left = left_by(

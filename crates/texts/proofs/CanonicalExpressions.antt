@@ -2,7 +2,8 @@
 use Rattle.std.proofs.Common.{◌≡◌, ℕ, List, [], ◌∷◌, ◌++◌, Bool, true, false, refl, sym, subst, append_assoc, ◌∙◌, codes}
 use Rattle.std.specs.List.{prefix_len}
 use Rattle.texts.specs.Signs.{RightParenthesis}
-use Rattle.texts.specs.Tokens.{TokenKind, Mark, is_word_byte}
+use Rattle.texts.specs.Tokens.{TokenKind, Mark}
+use Rattle.lines.specs.Bytes.{is_word_byte}
 use Rattle.texts.specs.Canonical.{is_compound, parenthesised, expression_text, arguments_text, kind_text, infix_text, prefix_text}
 use Rattle.texts.specs.CanonicalTokens.{parenthesised_tokens, expression_tokens, arguments_tokens, more_tokens, IsPrintable, ArePrintable, prefix_sign}
 use Rattle.texts.specs.Surface.{PrefixSign, Expression, Number, Name, Element, Call, Prefix, Cast, Infix, Conditional, Expressions, nothing, also}

@@ -11,13 +11,15 @@ use Rattle.std.specs.Fmt.{decimal}
 use Rattle.std.proofs.lemmas.Fmt.{decimal_nonempty}
 use Rattle.std.proofs.lemmas.List.{append-nil}
 use Rattle.semantics.specs.Word.{Kind, Int, Uint, Size}
-use Rattle.texts.specs.Numbers.{Literal, is_literal, is_decimal_digit, is_digit, digit_value, is_well_spelt, with_suffix, is_prefixed, number_of}
-use Rattle.texts.specs.Lines as lines
-use Rattle.texts.proofs.Decimals.{decimal_is_decimal, decimal_value, below_of}
+use Rattle.texts.specs.Numbers.{Literal, is_literal, is_digit, digit_value, with_suffix, is_prefixed, number_of}
+use Rattle.lines.specs.Bytes.{is_decimal_digit, is_well_spelt}
+use Rattle.lines.specs.Lines as lines
+use Rattle.lines.proofs.Decimals.{decimal_is_decimal, decimal_value, below_of}
 use Rattle.texts.specs.Canonical.{number_text}
 use Rattle.texts.specs.Reserved.{reserved_words}
-use Rattle.texts.specs.Tokens.{TokenKind, Name, Number, Has, piece, is_blank, is_letter, is_word_byte, is_exponent}
-use Rattle.texts.specs.Identifiers.{all_word_bytes}
+use Rattle.texts.specs.Tokens.{TokenKind, Name, Number, Has, piece, is_blank, is_exponent}
+use Rattle.lines.specs.Bytes.{is_letter, is_word_byte}
+use Rattle.lines.specs.Identifiers.{all_word_bytes}
 use Rattle.texts.specs.CanonicalTokens.{IsName, number_token}
 use Rattle.texts.proofs.CanonicalPieces.{Lexes, lex_piece}
 use Rattle.texts.proofs.CanonicalSigns.{IsFirst}

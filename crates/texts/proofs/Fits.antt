@@ -3,15 +3,15 @@ use Rattle.std.proofs.Common.{◌≡◌, ℕ, suc, ◌+◌, ◌≤◌, ◌<◌, 
 use Rattle.std.specs.Prelude.{codes}
 use Rattle.std.specs.List.{prefix_len, position_or_len, find}
 use Rattle.std.proofs.lemmas.Bool.{cond_both}
-use Rattle.std.proofs.lemmas.Bool.Decides.{Decides-eqb}
 use Rattle.std.proofs.lemmas.List.Prefix.{front_fits}
 use Rattle.std.proofs.lemmas.List.Sums.{prefix_len-le-length}
-use Rattle.std.proofs.lemmas.Slice.Eq.{starts_is}
+use Rattle.lines.proofs.Fronts.{begins, both}
 use Rattle.texts.specs.Signs.{Sign, signs}
 use Rattle.texts.specs.Faults.{TextFault}
 use Rattle.texts.specs.Numbers.{Literal}
-use Rattle.texts.specs.Tokens.{Piece, Gap, Has, Bad, piece, begins_with, is_blank, is_letter, is_word_byte, is_line_feed, comment_end, comment_piece, comment_gap, gap_without, first_place, joins_lines, leaves_line, number_before, number_piece, sign_piece}
-use Rattle.texts.specs.Numbers.{is_decimal_digit}
+use Rattle.texts.specs.Tokens.{Piece, Gap, Has, Bad, piece, begins_with, is_blank, is_line_feed, comment_end, comment_piece, comment_gap, gap_without, first_place, joins_lines, leaves_line, number_before, number_piece, sign_piece}
+use Rattle.lines.specs.Bytes.{is_letter, is_word_byte}
+use Rattle.lines.specs.Bytes.{is_decimal_digit}
 use Rattle.std.specs.List.{take_while}
 
 abbrev pub IsCount : (length count : ℕ) → Type 0
@@ -21,9 +21,6 @@ abbrev pub Fits : (length : ℕ) → Piece → Type 0
 Fits length (Gap count) = IsCount length count
 Fits length (Has kind count) = IsCount length count
 Fits length (Bad fault before) = before ≤ length
-
-pub begins : (bytes front : List ℕ) → begins_with bytes front ≡ true → bytes ≡ front ++ drop (length front) bytes
-begins bytes front h = (starts_is Decides-eqb bytes front (begins_with bytes front) refl).0 h
 
 pub word : (p : ℕ → Bool) (b : ℕ) (bytes : List ℕ) → p b ≡ true → IsCount (suc (length bytes)) (prefix_len p (b ∷ bytes))
 word p b bytes h = rw h (omega arith, omega (arith, prefix_len-le-length p bytes))
@@ -77,10 +74,6 @@ all_written (entry ∷ entries) = nat_lt 0 (length entry.0) && all_written entri
 pub signs_written : all_written signs ≡ true
 unfolding signs
 signs_written = refl
-
-pub both : (a b : Bool) → (a && b) ≡ true → (a ≡ true) × (b ≡ true)
-both true b h = (refl, h)
-both false b h = cc
 
 -- what `find` finds passes, and is written
 sign_fits : (bytes : List ℕ) (entries : List (List ℕ × Sign)) → all_written entries ≡ true → Fits (length bytes) (sign_piece (find (λ entry. begins_with bytes entry.0) entries))

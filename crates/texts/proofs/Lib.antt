@@ -4,8 +4,6 @@ pub mod Reading
 pub mod Order
 pub mod Unique
 pub mod Sites
-pub mod Decimals
-pub mod KernelNames
 pub mod Endings
 pub mod Spellings
 pub mod Declarations

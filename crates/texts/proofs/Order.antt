@@ -1,11 +1,13 @@
 -- A row has its tokens in order.
 use Rattle.std.proofs.Common.{◌≡◌, ◌≢◌, ℕ, ◌+◌, ◌<◌, ◌≤◌, List, [], ◌∷◌, inl, inr, length, Bool, true, false, nat_lt, Ok, ap, refl, sym, ◌∙◌, arith, ltb-true, length-append}
 use Rattle.std.specs.List.{Contains}
-use Rattle.texts.specs.Numbers.{is_decimal_digit}
+use Rattle.lines.specs.Bytes.{is_decimal_digit}
 use Rattle.texts.specs.Signs.{Sign, signs}
-use Rattle.texts.specs.Tokens.{TokenKind, Name, End, Word, Number, Mark, Token, token_at, tokens_of, is_letter}
+use Rattle.texts.specs.Tokens.{TokenKind, Name, End, Word, Number, Mark, Token, token_at, tokens_of}
+use Rattle.lines.specs.Bytes.{is_letter}
 use Rattle.texts.specs.Reading.{IsWord, IsText, IsInOrder, Reads, ends, gap, token}
-use Rattle.texts.proofs.Fits.{both, all_written, signs_written}
+use Rattle.lines.proofs.Fronts.{both}
+use Rattle.texts.proofs.Fits.{all_written, signs_written}
 use Rattle.texts.proofs.Reading.{one_of, tokens_read}
 
 written : (xs : List (List ℕ × Sign)) (x : List ℕ × Sign) → all_written xs ≡ true → Contains xs x → 0 < length x.0

@@ -8,12 +8,15 @@ use Rattle.std.proofs.lemmas.List.{take-append-drop, length-take-le, take_at, dr
 use Rattle.std.proofs.lemmas.List.Folds.{length-prefix_len}
 use Rattle.std.proofs.lemmas.Slice.Eq.{bytes_eq-Decides}
 use Rattle.texts.specs.Faults.{TextFault, BadNumber, TextTooLong}
-use Rattle.texts.specs.Numbers.{Literal, is_decimal_digit, number_of}
+use Rattle.texts.specs.Numbers.{Literal, number_of}
+use Rattle.lines.specs.Bytes.{is_decimal_digit}
 use Rattle.texts.specs.Reserved.{Reserved, reserved_words}
 use Rattle.texts.specs.Signs.{Sign, signs}
-use Rattle.texts.specs.Tokens.{TokenKind, End, tokens_of, first_site, Mark, Token, Lexed, Piece, Gap, Has, Bad, piece, next, tokens, token_at, in_front, begins_with, is_blank, is_letter, is_word_byte, is_line_feed, comment_end, comment_piece, comment_gap, gap_without, first_place, joins_lines, leaves_line, goes_on, number_before, number_piece, word_kind, sign_piece}
+use Rattle.texts.specs.Tokens.{TokenKind, End, tokens_of, first_site, Mark, Token, Lexed, Piece, Gap, Has, Bad, piece, next, tokens, token_at, in_front, begins_with, is_blank, is_line_feed, comment_end, comment_piece, comment_gap, gap_without, first_place, joins_lines, leaves_line, goes_on, number_before, number_piece, word_kind, sign_piece}
+use Rattle.lines.specs.Bytes.{is_letter, is_word_byte}
 use Rattle.texts.specs.Reading.{IsLongestRun, IsWord, IsWithout, IsGap, blank, line_comment, comment, IsText, Reads, ends, gap, token}
-use Rattle.texts.proofs.Fits.{Fits, IsCount, begins, both, word, comment_within, line_within, piece_fits}
+use Rattle.lines.proofs.Fronts.{begins, both}
+use Rattle.texts.proofs.Fits.{Fits, IsCount, word, comment_within, line_within, piece_fits}
 
 -- the bytes of a piece, and what follows
 abbrev Means : List ℕ → Piece → Type 0

@@ -3,11 +3,13 @@ use Rattle.std.proofs.Common.{◌≡◌, ℕ, suc, ◌+◌, ◌^◌, Bool, true,
 use Rattle.std.specs.List.{prefix_len}
 use Rattle.std.proofs.lemmas.Bool.{false≢true, cond_both, and_parts, and_from}
 use Rattle.texts.specs.Faults.{TextFault}
-use Rattle.texts.specs.Numbers.{Literal, value_of, is_digit, is_literal, is_well_spelt, sized, with_suffix, is_prefixed, number_in, number_of}
+use Rattle.texts.specs.Numbers.{Literal, value_of, is_digit, is_literal, sized, with_suffix, is_prefixed, number_in, number_of}
+use Rattle.lines.specs.Bytes.{is_well_spelt}
 use Rattle.texts.specs.Tokens as token
-use Rattle.texts.specs.Tokens.{TokenKind, Token, tokens_of, is_letter, is_word_byte}
+use Rattle.texts.specs.Tokens.{TokenKind, Token, tokens_of}
+use Rattle.lines.specs.Bytes.{is_letter, is_word_byte}
 use Rattle.texts.specs.Lexemes.{lexemes}
-use Rattle.texts.specs.Identifiers.{all_word_bytes, is_identifier}
+use Rattle.lines.specs.Identifiers.{all_word_bytes, is_identifier}
 use Rattle.texts.specs.Reading.{IsText, IsWord, Reads, ends, gap, token as one_token}
 use Rattle.texts.specs.Spelling.{IsSpelt, AreSpelt}
 use Rattle.texts.proofs.Reading.{tokens_read}

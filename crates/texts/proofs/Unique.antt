@@ -7,12 +7,13 @@ use Rattle.std.proofs.lemmas.Bool.{cond_both, cond-true, cond-false, false≢tru
 use Rattle.std.proofs.lemmas.Bool.Decides.{Decides-eqb, nat_tests}
 use Rattle.std.proofs.lemmas.List.{take_at, drop_at}
 use Rattle.std.proofs.lemmas.Slice.Eq.{bytes_eq-Decides, starts_is}
-use Rattle.texts.specs.Numbers.{is_decimal_digit}
+use Rattle.lines.specs.Bytes.{is_decimal_digit}
 use Rattle.texts.specs.Reserved.{Reserved, reserved_words}
 use Rattle.texts.specs.Signs.{Sign, signs}
-use Rattle.texts.specs.Tokens.{TokenKind, Name, End, Word, Number, Mark, Token, Piece, Gap, Has, piece, next, tokens, tokens_of, token_at, in_front, begins_with, is_blank, is_letter, is_word_byte, is_line_feed, comment_end, comment_piece, comment_gap, gap_without, first_place, joins_lines, leaves_line, goes_on, number_before, number_piece, word_kind, sign_piece}
+use Rattle.texts.specs.Tokens.{TokenKind, Name, End, Word, Number, Mark, Token, Piece, Gap, Has, piece, next, tokens, tokens_of, token_at, in_front, begins_with, is_blank, is_line_feed, comment_end, comment_piece, comment_gap, gap_without, first_place, joins_lines, leaves_line, goes_on, number_before, number_piece, word_kind, sign_piece}
+use Rattle.lines.specs.Bytes.{is_letter, is_word_byte}
 use Rattle.texts.specs.Reading.{IsLongestRun, IsWord, IsGap, blank, line_comment, comment, IsText, Reads, ends, gap, token}
-use Rattle.texts.proofs.Fits.{begins, both}
+use Rattle.lines.proofs.Fronts.{begins, both}
 use Rattle.texts.proofs.Reading.{same_two, found, not_found, one_of, longest, signs_fall, after}
 use Rattle.texts.proofs.Order.{text_written}
 

@@ -11,7 +11,7 @@ use Rattle.texts.specs.Tokens as token
 use Rattle.texts.specs.Tokens.{TokenKind, Word, Mark}
 use Rattle.texts.specs.Numbers.{is_literal}
 use Rattle.texts.specs.Lexemes.{is_named}
-use Rattle.texts.specs.Identifiers.{is_identifier}
+use Rattle.lines.specs.Identifiers.{is_identifier}
 use Rattle.texts.specs.Canonical.{is_compound}
 use Rattle.texts.specs.Surface.{PrefixSign, Minus, LogicalNot, BitNot, InfixSign, Arithmetic, LeftShift, RightShift, Comparison, LogicalAnd, LogicalOr, AssignSign, Plain, With, WithLeftShift, WithRightShift, Expression, Number, Name, Element, Call, Prefix, Cast, Infix, Conditional, Expressions, nothing, also, Declaration, Assignment, First, FirstDeclares, FirstAssigns, JumpWord, Return, Break, Continue, Statement, Declare, DeclareArray, Assign, If, While, For, Barrier, Jump, Block, Statements, none, one, Parameter, Buffer, Value, Kernel}
 

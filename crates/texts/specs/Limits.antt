@@ -3,8 +3,11 @@
 use Rattle.std.specs.Prelude.{ℕ, ◌+◌, List, [], ◌∷◌, Option, Some, None, Result, Ok, Err, cond, nat_lt}
 use Rattle.semantics.specs.Core.{Site}
 use Rattle.texts.specs.Surface.{Expression, Number, Name, Element, Call, Prefix, Cast, Infix, Conditional, Expressions, nothing, also, Declaration, Assignment, First, FirstDeclares, FirstAssigns, Statement, Declare, DeclareArray, Assign, If, While, For, Barrier, Jump, Block, Statements, none, one, Parameter, Buffer, Value, Kernel}
-use Rattle.texts.specs.Elaboration.{either}
 use Rattle.texts.specs.ParseFaults.{ParseFault, TooDeep, TooMany}
+
+abbrev pub either : Option Site → Option Site → Option Site
+either None b = b
+either (Some a) b = Some a
 
 -- a node at this depth, and then what is in it
 abbrev pub past : (depth : ℕ) → Site → Option Site → Option Site

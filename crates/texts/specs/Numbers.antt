@@ -1,6 +1,7 @@
 -- Numbers as they are written (C99 6.4.4.1 without octal numbers and with the suffix `u` alone; kinds of 32 bits).
 use Rattle.std.specs.Prelude.{ℕ, ◌+◌, ◌-◌, ◌*◌, ◌^◌, List, [], ◌∷◌, take, drop, Bool, true, false, cond, not, nat_eq, nat_lt, nat_le, ◌&&◌, ◌||◌, Result, Ok, Err, fold, codes}
 use Rattle.std.specs.List.{prefix_len, starts_with}
+use Rattle.lines.specs.Bytes.{is_decimal_digit, is_well_spelt}
 use Rattle.semantics.specs.Word.{Kind, Int, Uint, Size}
 use Rattle.texts.specs.Faults.{TextFault, NumberTooLarge, BadNumber}
 
@@ -8,10 +9,6 @@ use Rattle.texts.specs.Faults.{TextFault, NumberTooLarge, BadNumber}
 pub record Literal : Type 0 where
   pub kind : Kind
   pub value : ℕ
-
--- `0` to `9`
-abbrev pub is_decimal_digit : ℕ → Bool
-is_decimal_digit b = nat_le 48 b && nat_le b 57
 
 -- a digit of a hexadecimal number, in either case of letters, or of a decimal one
 abbrev pub is_digit : (hexadecimal : Bool) → ℕ → Bool
@@ -30,12 +27,6 @@ base_of false = 10
 -- the number that digits stand for, the first one counting most
 abbrev pub value_of : (hexadecimal : Bool) → List ℕ → ℕ
 value_of hexadecimal digits = fold (λ n b. n * base_of hexadecimal + digit_value b) 0 digits
-
--- hexadecimal digits are one or more; decimal ones begin with `0` only where that is all
-abbrev pub is_well_spelt : (hexadecimal : Bool) → List ℕ → Bool
-is_well_spelt hexadecimal [] = false
-is_well_spelt hexadecimal (a ∷ []) = true
-is_well_spelt hexadecimal (a ∷ b ∷ digits) = hexadecimal || not (nat_eq a 48)
 
 -- a number that a literal of a kind has: of sizes there is none
 abbrev pub is_literal : Kind → ℕ → Bool

@@ -4,8 +4,10 @@ use Rattle.std.specs.Prelude.{◌≡◌, ◌≢◌, ℕ, ◌+◌, ◌<◌, ◌�
 use Rattle.std.specs.List.{prefix_len, Contains, count_by, suffix_len}
 use Rattle.texts.specs.Reserved.{Reserved, reserved_words}
 use Rattle.texts.specs.Signs.{Sign, signs}
-use Rattle.texts.specs.Numbers.{is_decimal_digit, number_of}
-use Rattle.texts.specs.Tokens.{TokenKind, Name, End, Word, Number, Mark, Token, token_at, site_of, is_blank, is_letter, is_line_feed, is_word_byte, begins_with, comment_end, joins_lines, leaves_line, goes_on}
+use Rattle.texts.specs.Numbers.{number_of}
+use Rattle.lines.specs.Bytes.{is_decimal_digit}
+use Rattle.texts.specs.Tokens.{TokenKind, Name, End, Word, Number, Mark, Token, token_at, site_of, is_blank, is_line_feed, begins_with, comment_end, joins_lines, leaves_line, goes_on}
+use Rattle.lines.specs.Bytes.{is_letter, is_word_byte}
 
 -- all bytes pass, and the first of the rest, where there is one, does not: no longer front passes
 abbrev pub IsLongestRun : (test : ℕ → Bool) → (bytes rest : List ℕ) → Type 0

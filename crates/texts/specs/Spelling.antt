@@ -5,7 +5,7 @@ use Rattle.texts.specs.Tokens as token
 use Rattle.texts.specs.Tokens.{TokenKind}
 use Rattle.texts.specs.Lexemes.{Lexeme}
 use Rattle.texts.specs.Numbers.{is_literal}
-use Rattle.texts.specs.Identifiers.{is_identifier}
+use Rattle.lines.specs.Identifiers.{is_identifier}
 use Rattle.texts.specs.Surface.{Expression, Number, Name, Element, Call, Prefix, Cast, Infix, Conditional, Expressions, nothing, also, Declaration, Assignment, First, FirstDeclares, FirstAssigns, Statement, Declare, DeclareArray, Assign, If, While, For, Barrier, Jump, Block, Statements, none, one, Parameter, Buffer, Value, Kernel}
 use Rattle.texts.specs.KernelLimits.{statements_in, statements_of}
 

@@ -7,7 +7,8 @@ pub use Rattle.semantics.specs.Core.{Site}
 use Rattle.texts.specs.Signs.{Sign, signs}
 use Rattle.texts.specs.Reserved.{Reserved, reserved_words}
 use Rattle.texts.specs.Faults.{TextFault, BadByte, OpenComment, BadNumber, TextTooLong}
-use Rattle.texts.specs.Numbers.{Literal, is_decimal_digit, number_of}
+use Rattle.texts.specs.Numbers.{Literal, number_of}
+use Rattle.lines.specs.Bytes.{is_letter, is_word_byte, is_decimal_digit}
 
 -- what a token is: a name has its bytes; `End` stands at the end of each text
 pub data TokenKind : Type 0 where
@@ -48,10 +49,6 @@ is_blank b = (nat_eq b 32 || nat_eq b 9) || (nat_eq b 10 || nat_eq b 13)
 abbrev pub is_line_feed : ℕ → Bool
 is_line_feed b = nat_eq b 10
 
--- a letter or `_` begins a name or a reserved word (C99 6.4.2.1)
-abbrev pub is_letter : ℕ → Bool
-is_letter b = (nat_le 97 b && nat_le b 122) || ((nat_le 65 b && nat_le b 90) || nat_eq b 95)
-
 -- what an exponent begins with (C99 6.4.8): the language has none
 abbrev pub is_exponent : ℕ → Bool
 is_exponent b = (nat_eq b 101 || nat_eq b 69) || (nat_eq b 112 || nat_eq b 80)
@@ -59,10 +56,6 @@ is_exponent b = (nat_eq b 101 || nat_eq b 69) || (nat_eq b 112 || nat_eq b 80)
 -- `+` or `-`
 abbrev pub is_sum_sign : ℕ → Bool
 is_sum_sign b = nat_eq b 43 || nat_eq b 45
-
--- what a name, a reserved word or a number goes on with (C99 6.4.2.1, 6.4.8)
-abbrev pub is_word_byte : ℕ → Bool
-is_word_byte b = is_letter b || is_decimal_digit b
 
 -- whether these bytes stand at the front
 abbrev pub begins_with : (bytes front : List ℕ) → Bool

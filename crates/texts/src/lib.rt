@@ -5,5 +5,4 @@
 #![tactic(auto)]
 
 pub mod laws;
-pub mod naming;
 pub mod printing;

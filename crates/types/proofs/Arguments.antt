@@ -3,9 +3,9 @@ use Rattle.std.proofs.Common.{◌≡◌, ◌≢◌, List, [], ◌∷◌, length,
 use Rattle.semantics.specs.Core as core
 use Rattle.texts.specs.Surface.{Expression, Number, Expressions, nothing, also}
 use Rattle.semantics.specs.Word.{Kind}
-use Rattle.texts.specs.Scope.{Devices, Binding}
-use Rattle.texts.specs.TypeFaults.{WrongType, Checked, refused, then}
-use Rattle.texts.specs.Typing.{TypedTerm, id_term, are_two, pick_term, type_of, types_of}
+use Rattle.types.specs.Scope.{Devices, Binding}
+use Rattle.types.specs.TypeFaults.{WrongType, Checked, refused, then}
+use Rattle.types.specs.Typing.{TypedTerm, id_term, are_two, pick_term, type_of, types_of}
 use Rattle.syntax.specs.View.{expression, expressions}
 use Rattle.syntax.specs.declared.tree.Expr.{Expr}
 

@@ -5,7 +5,7 @@ use Rattle.std.specs.Map.{lookup}
 use Rattle.std.proofs.lemmas.List.{map-append}
 use Rattle.indexmap.specs.IndexMap.{IndexMap, insert_entry}
 use Rattle.indexmap.proofs.CallerLemmas.{insert_entry-new}
-use Rattle.texts.specs.Scope as scope
+use Rattle.types.specs.Scope as scope
 use Rattle.types.specs.Names.{binding, meaning_seen, names}
 use Rattle.types.specs.declared.scope.Meaning.{Meaning}
 

@@ -3,10 +3,10 @@ use Rattle.std.proofs.Common.{◌≡◌, ℕ, suc, ◌+◌, ◌<◌, ◌≤◌, 
 use Rattle.std.proofs.Math.ListN.{drop_of_length-le}
 use Rattle.semantics.specs.Core as core
 use Rattle.texts.specs.Surface as surface
-use Rattle.texts.specs.TypeFaults.{Checked, then}
-use Rattle.texts.specs.Scope.{Scope, leave_block}
-use Rattle.texts.specs.Typing.{TypedTerm, type_of}
-use Rattle.texts.specs.Elaboration.{Elaborated, elaborated, single, join, elaborate_first, Around, InLoop, inside, elaborate_statement, elaborate_all}
+use Rattle.types.specs.TypeFaults.{Checked, then}
+use Rattle.types.specs.Scope.{Scope, leave_block}
+use Rattle.types.specs.Typing.{TypedTerm, type_of}
+use Rattle.types.specs.Elaboration.{Elaborated, elaborated, single, join, elaborate_first, Around, InLoop, inside, elaborate_statement, elaborate_all}
 use Rattle.core_code.specs.View.{statement, statements}
 use Rattle.types.specs.Blocks.{behind, block, repeated, turn, otherwise}
 use Rattle.types.specs.Answers.{Gives, Refuses}

@@ -4,8 +4,8 @@ use Rattle.std.proofs.lemmas.List.{length-map, drop-map}
 use Rattle.semantics.specs.Core as core
 use Rattle.semantics.specs.Launch as launch
 use Rattle.texts.specs.Surface as surface
-use Rattle.texts.specs.Scope.{Devices, Scope, empty_scope}
-use Rattle.texts.specs.Elaboration.{Elaborated, InKernel, declare_parameters, elaborate_all, elaborate_inside}
+use Rattle.types.specs.Scope.{Devices, Scope, empty_scope}
+use Rattle.types.specs.Elaboration.{Elaborated, InKernel, declare_parameters, elaborate_all, elaborate_inside}
 use Rattle.words.specs.View.{kind}
 use Rattle.words.specs.declared.word.Kind.{Kind}
 use Rattle.types.specs.Blocks.{behind}

@@ -6,12 +6,12 @@ use Rattle.indexmap.specs.IndexMap.{IndexMap}
 use Rattle.semantics.specs.Core as core
 use Rattle.semantics.specs.Word.{Kind}
 use Rattle.texts.specs.Surface as surface
-use Rattle.texts.specs.TypeFaults.{TypeFault, NameTwice, Checked, then, when}
-use Rattle.texts.specs.Scope.{Scope, Binding, ArrayAt, may_declare, bind, declare_array}
+use Rattle.types.specs.TypeFaults.{TypeFault, NameTwice, Checked, then, when}
+use Rattle.types.specs.Scope.{Scope, Binding, ArrayAt, may_declare, bind, declare_array}
 use Rattle.types.specs.Blocks.{behind, block, repeated}
 use Rattle.types.specs.Names.{binding, names}
 use Rattle.types.specs.declared.scope.Meaning.{Meaning}
-use Rattle.texts.specs.Elaboration.{Elaborated, elaborated, join, elaborate_declaration, elaborate_first, Around, InKernel, InBlock, InLoop, elaborate_statement, elaborate_all}
+use Rattle.types.specs.Elaboration.{Elaborated, elaborated, join, elaborate_declaration, elaborate_first, Around, InKernel, InBlock, InLoop, elaborate_statement, elaborate_all}
 
 abbrev pub Extends : List Binding → List Binding → Type 0
 Extends old new = (more : List Binding) × (new ≡ old ++ more)

@@ -6,9 +6,9 @@ use Rattle.semantics.specs.Word.{Kind}
 use Rattle.semantics.specs.Launch.{Kernel}
 use Rattle.texts.specs.Surface as surface
 use Rattle.texts.specs.Surface.{Parameter, Buffer, Value}
-use Rattle.texts.specs.TypeFaults as checks
-use Rattle.texts.specs.Scope.{Devices, Scope, empty_scope, may_declare, may_name_kernel}
-use Rattle.texts.specs.Elaboration.{InKernel, declare_parameter, declare_parameters, elaborate_inside, elaborate, elaborate_all}
+use Rattle.types.specs.TypeFaults as checks
+use Rattle.types.specs.Scope.{Devices, Scope, empty_scope, may_declare, may_name_kernel}
+use Rattle.types.specs.Elaboration.{InKernel, declare_parameter, declare_parameters, elaborate_inside, elaborate, elaborate_all}
 use Rattle.kernel_names.specs.NameMap.{NameMap, names_of}
 use Rattle.kernel_names.specs.Parameters.{value_kind, buffer_kind, onto, kinds, HasParameters}
 use Rattle.texts.specs.Declarations.{HasFewNames, most_names}

@@ -4,11 +4,11 @@ use Rattle.std.proofs.lemmas.List.{length-append, length-drop}
 use Rattle.semantics.specs.Core as core
 use Rattle.semantics.specs.Word.{Kind}
 use Rattle.texts.specs.Surface as surface
-use Rattle.texts.specs.TypeFaults.{TypeFault, NameTwice, Checked, then, when}
-use Rattle.texts.specs.Scope.{Scope, VariableAt, ArrayAt, may_declare, bind, declare_array, leave_block}
-use Rattle.texts.specs.Typing.{type_of}
+use Rattle.types.specs.TypeFaults.{TypeFault, NameTwice, Checked, then, when}
+use Rattle.types.specs.Scope.{Scope, VariableAt, ArrayAt, may_declare, bind, declare_array, leave_block}
+use Rattle.types.specs.Typing.{type_of}
 use Rattle.texts.specs.Declarations.{declared_first, declared_in, declared_by}
-use Rattle.texts.specs.Elaboration.{Elaborated, elaborated, declare_parameter, declare_parameters, elaborate_assignment, elaborate_declaration, elaborate_first, elaborate_statement, elaborate_all, barrier_of, Around, InKernel, InBlock, InLoop, inside, jump_to}
+use Rattle.types.specs.Elaboration.{Elaborated, elaborated, declare_parameter, declare_parameters, elaborate_assignment, elaborate_declaration, elaborate_first, elaborate_statement, elaborate_all, barrier_of, Around, InKernel, InBlock, InLoop, inside, jump_to}
 use Rattle.types.specs.Blocks.{behind, block}
 use Rattle.types.specs.Rooms.{declared}
 use Rattle.std.specs.Prelude.{Vec}

@@ -2,9 +2,9 @@
 use Rattle.std.specs.Prelude.{◌≡◌, ℕ, Option, None, Some, Result, Ok, Err}
 use Rattle.semantics.specs.Core as core
 use Rattle.semantics.specs.Word as word
-use Rattle.texts.specs.TypeFaults as rules
-use Rattle.texts.specs.TypeFaults.{Checked}
-use Rattle.texts.specs.Typing as typing
+use Rattle.types.specs.TypeFaults as rules
+use Rattle.types.specs.TypeFaults.{Checked}
+use Rattle.types.specs.Typing as typing
 use Rattle.words.specs.View.{kind}
 use Rattle.core_code.specs.View.{site}
 use Rattle.words.specs.declared.word.Kind.{Kind}

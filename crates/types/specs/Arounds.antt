@@ -1,5 +1,5 @@
 -- Where a statement stands, as the definitions have it.
-use Rattle.texts.specs.Elaboration as elaboration
+use Rattle.types.specs.Elaboration as elaboration
 use Rattle.types.specs.declared.jumps.Around.{Around}
 use Rattle.types.specs.declared.jumps.Around.TheVariants as arounds
 

@@ -2,10 +2,10 @@
 use Rattle.std.specs.Prelude.{ℕ, Ok}
 use Rattle.semantics.specs.Core as core
 use Rattle.texts.specs.Surface as surface
-use Rattle.texts.specs.TypeFaults.{Checked, then}
-use Rattle.texts.specs.Scope.{Scope, leave_block}
-use Rattle.texts.specs.Typing.{type_of}
-use Rattle.texts.specs.Elaboration.{Elaborated, elaborated, single, join, elaborate_assignment, Around, InLoop, inside, elaborate_all}
+use Rattle.types.specs.TypeFaults.{Checked, then}
+use Rattle.types.specs.Scope.{Scope, leave_block}
+use Rattle.types.specs.Typing.{type_of}
+use Rattle.types.specs.Elaboration.{Elaborated, elaborated, single, join, elaborate_assignment, Around, InLoop, inside, elaborate_all}
 
 -- what is typed comes behind these statements
 abbrev pub behind : core.Statements → Checked Elaborated → Checked Elaborated

@@ -1,8 +1,10 @@
 pub mod Answers
 pub mod Arounds
 pub mod Blocks
-pub mod Elaborated
+pub mod Elaboration
 pub mod Functions
 pub mod Names
 pub mod Rooms
-pub mod TypedKernel
+pub mod Scope
+pub mod TypeFaults
+pub mod Typing

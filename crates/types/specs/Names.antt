@@ -2,10 +2,10 @@
 use denote.Ref.{Bor}
 use Rattle.std.specs.Prelude.{ℕ, List, map}
 use Rattle.indexmap.specs.IndexMap.{IndexMap}
-use Rattle.texts.specs.Scope as scope
+use Rattle.types.specs.Scope as scope
 use Rattle.words.specs.View.{kind}
 use Rattle.core_code.specs.View.{array, local_array, statement, statements}
-use Rattle.texts.specs.Elaboration.{Elaborated, elaborated, single}
+use Rattle.types.specs.Elaboration.{Elaborated, elaborated, single}
 use Rattle.core_code.specs.declared.tree.Statement.{Statement}
 use Rattle.types.specs.declared.scope.Meaning.{Meaning}
 use Rattle.types.specs.declared.scope.Meaning.TheVariants as meanings

@@ -1,6 +1,6 @@
 -- How many names may still be declared.
 use Rattle.std.specs.Prelude.{ℕ, ◌+◌, ◌≤◌, length}
-use Rattle.texts.specs.Scope as scope
+use Rattle.types.specs.Scope as scope
 use Rattle.texts.specs.Declarations.{most_names}
 
 -- how many names were declared so far

@@ -3,10 +3,10 @@
 ghost use Rattle.std.specs.Prelude.{◌≡◌, Ok, Some, None, string_bytes};
 ghost use Rattle.std.specs.Option.{option_map};
 ghost use Rattle.semantics.specs.Core as core;
-ghost use Rattle.texts.specs.Elaboration as elaboration;
-ghost use Rattle.texts.specs.Scope as scoping;
-ghost use Rattle.texts.specs.TypeFaults as rules;
-ghost use Rattle.texts.specs.Typing as typing;
+ghost use Rattle.types.specs.Elaboration as elaboration;
+ghost use Rattle.types.specs.Scope as scoping;
+ghost use Rattle.types.specs.TypeFaults as rules;
+ghost use Rattle.types.specs.Typing as typing;
 ghost use Rattle.words.specs.View.{kind as kind_of};
 ghost use Rattle.syntax.specs.View.{expression, assign_sign, assignment};
 ghost use Rattle.core_code.specs.View.{site};
@@ -134,7 +134,7 @@ fn assign_element(
 }
 
 /// The core statement of an assignment, or its first broken rule: of the target, of its index, of the value.
-#[tactic(auto, unfolding(texts::specs::Elaboration::elaborate_assignment))]
+#[tactic(auto, unfolding(crate::specs::Elaboration::elaborate_assignment))]
 pub fn elaborate_assignment(
     alloc: Global,
     scope: &Scope,

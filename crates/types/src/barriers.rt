@@ -1,7 +1,7 @@
 //! Barriers and their fence flags.
 
 ghost use Rattle.std.specs.Prelude.{◌≡◌};
-ghost use Rattle.texts.specs.Elaboration as elaboration;
+ghost use Rattle.types.specs.Elaboration as elaboration;
 ghost use Rattle.texts.specs.Surface as surface;
 ghost use Rattle.syntax.specs.View.{infix_sign, expression};
 ghost use Rattle.core_code.specs.View.{site as site_of};

@@ -1,14 +1,14 @@
 //! The functions that a kernel may call.
 
 ghost use Rattle.std.specs.Prelude.{◌≡◌};
-ghost use Rattle.texts.specs.Scope as scope;
-ghost use Rattle.texts.specs.Typing as typing;
+ghost use Rattle.types.specs.Scope as scope;
+ghost use Rattle.types.specs.Typing as typing;
 ghost use Rattle.types.specs.Functions.{function_seen, pick_seen};
 
 use core_code::tree::Function;
 
 /// The work-item function of a name.
-#[tactic(auto, unfolding(texts::specs::Typing::function_named))]
+#[tactic(auto, unfolding(crate::specs::Typing::function_named))]
 pub fn function_named(name: &str) -> Option<Function>
     ensures { function_seen result ≡ typing.function_named name.now }
 {
@@ -44,7 +44,7 @@ pub fn pick_named(name: &str) -> Option<Pick>
 }
 
 // Of the names below, those that are not atomic.
-#[tactic(auto, unfolding(texts::specs::Typing::left_out_names))]
+#[tactic(auto, unfolding(crate::specs::Typing::left_out_names))]
 fn is_left_out_name(name: &str) -> bool
     ensures { result ≡ scope.is_one_of typing.left_out_names name.now }
 {
@@ -66,7 +66,7 @@ fn is_left_out_name(name: &str) -> bool
 }
 
 /// Whether OpenCL C has a function of that name that this language leaves out.
-#[tactic(auto, unfolding(texts::specs::Typing::is_left_out))]
+#[tactic(auto, unfolding(crate::specs::Typing::is_left_out))]
 pub fn is_left_out(name: &str) -> bool
     ensures { result ≡ typing.is_left_out name.now }
 {

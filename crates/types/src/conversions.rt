@@ -1,7 +1,7 @@
 //! Typed terms, and the kinds to which they are brought.
 
 ghost use Rattle.std.specs.Prelude.{◌≡◌, IfOk};
-ghost use Rattle.texts.specs.Typing as typing;
+ghost use Rattle.types.specs.Typing as typing;
 ghost use Rattle.words.specs.View.{kind};
 ghost use Rattle.core_code.specs.View.{site, term};
 ghost use Rattle.types.specs.Answers.{typed_term};

@@ -1,9 +1,9 @@
 //! What declarations add to a scope.
 
 ghost use Rattle.std.specs.Prelude.{◌≡◌, map, length, IfOk};
-ghost use Rattle.texts.specs.Elaboration as elaboration;
-ghost use Rattle.texts.specs.Scope as scoping;
-ghost use Rattle.texts.specs.TypeFaults as rules;
+ghost use Rattle.types.specs.Elaboration as elaboration;
+ghost use Rattle.types.specs.Scope as scoping;
+ghost use Rattle.types.specs.TypeFaults as rules;
 ghost use Rattle.words.specs.View.{kind as kind_of};
 ghost use Rattle.syntax.specs.View.{parameter as parameter_of};
 ghost use Rattle.core_code.specs.View.{site};
@@ -17,7 +17,7 @@ use core_code::tree::{Array, LocalArray, Site, Space};
 use syntax::tree::Parameter;
 use words::Kind;
 
-#[tactic(auto, unfolding(texts::specs::Scope::reserved_names))]
+#[tactic(auto, unfolding(crate::specs::Scope::reserved_names))]
 fn is_reserved(name: &str) -> bool
     ensures { result ≡ scoping.is_one_of scoping.reserved_names name.now }
 {
@@ -58,7 +58,7 @@ fn is_renamed(name: &str) -> bool
 }
 
 /// A name that no declaration may take, wherever it stands.
-#[tactic(auto, unfolding(texts::specs::Scope::is_taken))]
+#[tactic(auto, unfolding(crate::specs::Scope::is_taken))]
 fn is_taken(name: &str) -> bool
     ensures { result ≡ scoping.is_taken name.now }
 {
@@ -75,7 +75,7 @@ fn begins_underscored(name: &str) -> bool
 }
 
 /// A function that a compiler calls on its own.
-#[tactic(auto, unfolding(texts::specs::Scope::called_names))]
+#[tactic(auto, unfolding(crate::specs::Scope::called_names))]
 fn is_called(name: &str) -> bool
     ensures { result ≡ scoping.is_one_of scoping.called_names name.now }
 {

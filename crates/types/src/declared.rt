@@ -3,7 +3,7 @@
 ghost use Rattle.std.specs.Prelude.{◌≡◌, ℕ};
 ghost use Rattle.semantics.specs.Core as core;
 ghost use Rattle.texts.specs.Declarations.{declared_first};
-ghost use Rattle.texts.specs.Elaboration as elaboration;
+ghost use Rattle.types.specs.Elaboration as elaboration;
 ghost use Rattle.texts.specs.Surface as surface;
 ghost use Rattle.words.specs.View.{kind as kind_of};
 ghost use Rattle.syntax.specs.View.{declaration, first as first_of};
@@ -24,7 +24,7 @@ use std::alloc::Global;
 use syntax::tree::{Declaration, First};
 
 /// The core statement of a declaration, whose name is visible after its value.
-#[tactic(auto, unfolding(texts::specs::Elaboration::elaborate_declaration))]
+#[tactic(auto, unfolding(crate::specs::Elaboration::elaborate_declaration))]
 pub fn elaborate_declaration<'a>(
     alloc: Global,
     scope: &mut Scope<'a>,
@@ -58,7 +58,7 @@ pub fn elaborate_first<'a>(
 }
 
 /// A local array, which stands directly in the kernel's body.
-#[tactic(auto, unfolding(texts::specs::Elaboration::elaborate_statement))]
+#[tactic(auto, unfolding(crate::specs::Elaboration::elaborate_statement))]
 pub fn declare_local<'a>(
     scope: &mut Scope<'a>,
     around: Around,

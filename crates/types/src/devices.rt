@@ -1,7 +1,7 @@
 //! The devices that a kernel is read for.
 
 ghost use Rattle.std.specs.Prelude.{◌≡◌};
-ghost use Rattle.texts.specs.Scope as scope;
+ghost use Rattle.types.specs.Scope as scope;
 ghost use Rattle.types.specs.Names.{devices as devices_seen};
 ghost use Rattle.words.specs.View.{kind};
 
@@ -16,7 +16,7 @@ pub enum Devices {
 
 impl Devices {
     ghost use Rattle.std.specs.Prelude.{◌≡◌};
-    ghost use Rattle.texts.specs.Scope as scope;
+    ghost use Rattle.types.specs.Scope as scope;
     ghost use Rattle.types.specs.Names.{devices as devices_seen};
     ghost use Rattle.words.specs.View.{kind};
 

@@ -2,7 +2,7 @@
 
 ghost use Rattle.std.specs.Prelude.{◌≡◌, drop};
 ghost use Rattle.texts.specs.Declarations.{HasFewNames};
-ghost use Rattle.texts.specs.Elaboration as elaboration;
+ghost use Rattle.types.specs.Elaboration as elaboration;
 ghost use Rattle.syntax.specs.View.{kernel as tree_of};
 ghost use Rattle.core_code.specs.View.{kernel};
 ghost use Rattle.types.specs.Answers.{Gives};
@@ -32,7 +32,7 @@ fn behind(kinds: &[Kind], first: usize) -> &[Kind]
 }
 
 // The core of a kernel, or the first broken rule of its parameters, then of its statements.
-#[tactic(auto, unfolding(texts::specs::Elaboration::elaborate_inside))]
+#[tactic(auto, unfolding(crate::specs::Elaboration::elaborate_inside))]
 fn elaborate_inside(alloc: Global, devices: Devices, tree: &Kernel) -> Result<Core, TypeError>
     requires { HasFewNames (tree_of tree.now) }
     ensures { Gives kernel result (elaboration.elaborate_inside (devices_seen devices) (tree_of tree.now)) }
@@ -61,7 +61,7 @@ fn elaborate_inside(alloc: Global, devices: Devices, tree: &Kernel) -> Result<Co
 }
 
 /// The core of a kernel for these devices, or its first broken rule: of its name, of its parameters, then of its statements.
-#[tactic(auto, unfolding(texts::specs::Elaboration::elaborate))]
+#[tactic(auto, unfolding(crate::specs::Elaboration::elaborate))]
 pub fn elaborate(alloc: Global, devices: Devices, tree: &Kernel) -> Result<Core, TypeError>
     requires { HasFewNames (tree_of tree.now) }
     ensures { Gives kernel result (elaboration.elaborate (devices_seen devices) (tree_of tree.now)) }

@@ -21,7 +21,7 @@ pub enum TypeFault {
 }
 
 impl TypeFault {
-    ghost use Rattle.texts.specs.TypeFaults.{type_fault_number};
+    ghost use Rattle.types.specs.TypeFaults.{type_fault_number};
     ghost use Rattle.types.specs.Answers.{fault};
 
     /// The number under which the fault is printed.

@@ -1,7 +1,7 @@
 //! Jump statements, and where statements stand.
 
 ghost use Rattle.std.specs.Prelude.{◌≡◌};
-ghost use Rattle.texts.specs.Elaboration as elaboration;
+ghost use Rattle.types.specs.Elaboration as elaboration;
 ghost use Rattle.syntax.specs.View.{jump_word};
 ghost use Rattle.core_code.specs.View.{site as site_of, statement};
 ghost use Rattle.types.specs.Answers.{Gives};

@@ -16,6 +16,7 @@ pub mod elaboration;
 pub mod error;
 pub mod jumps;
 pub mod loads;
+pub mod naming;
 pub mod scope;
 pub mod statements;
 pub mod targets;

@@ -2,7 +2,8 @@
 
 ghost use Rattle.std.specs.Prelude.{◌≡◌};
 ghost use Rattle.std.specs.Option.{option_map};
-ghost use Rattle.texts.specs.Elaboration as elaboration;
+ghost use Rattle.texts.specs.Limits as limits;
+ghost use Rattle.types.specs.Elaboration as elaboration;
 ghost use Rattle.syntax.specs.View.{expression, expressions};
 ghost use Rattle.core_code.specs.View.{site as site_of};
 
@@ -10,7 +11,7 @@ use core_code::tree::Site;
 use syntax::tree::Expr;
 
 fn either(first: Option<Site>, second: Option<Site>) -> Option<Site>
-    ensures { option_map site_of result ≡ elaboration.either (option_map site_of first) (option_map site_of second) }
+    ensures { option_map site_of result ≡ limits.either (option_map site_of first) (option_map site_of second) }
 {
     match first {
         Some(site) => Some(site),

@@ -2,7 +2,7 @@
 
 ghost use Rattle.std.specs.Prelude.{◌≡◌};
 ghost use Rattle.std.specs.Option.{option_map};
-ghost use Rattle.texts.specs.Scope as scope;
+ghost use Rattle.types.specs.Scope as scope;
 ghost use Rattle.types.specs.Names.{meaning_seen, names};
 
 use crate::devices::Devices;

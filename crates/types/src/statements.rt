@@ -3,10 +3,10 @@
 ghost use Rattle.std.specs.Prelude.{◌≡◌, ◌+◌, Ok};
 ghost use Rattle.semantics.specs.Core as core;
 ghost use Rattle.texts.specs.Declarations.{declared_first, declared_in, declared_by};
-ghost use Rattle.texts.specs.Elaboration as elaboration;
+ghost use Rattle.types.specs.Elaboration as elaboration;
 ghost use Rattle.texts.specs.Surface as surface;
-ghost use Rattle.texts.specs.Scope as scoping;
-ghost use Rattle.texts.specs.TypeFaults.{Checked};
+ghost use Rattle.types.specs.Scope as scoping;
+ghost use Rattle.types.specs.TypeFaults.{Checked};
 ghost use Rattle.syntax.specs.View.{expression, assignment, first as first_of, statement as stmt, statements as stmts};
 ghost use Rattle.core_code.specs.View.{term, statement, statements};
 ghost use Rattle.types.specs.Arounds.{around as around_of};
@@ -28,7 +28,7 @@ use syntax::tree::{Assignment, Expr, First, Stmt};
 
 /// Statements in order, behind those that are there.
 #[cycle(statements)]
-#[tactic(auto, using(crate::proofs::Blocks::in_order), unfolding(texts::specs::Elaboration::elaborate_all))]
+#[tactic(auto, using(crate::proofs::Blocks::in_order), unfolding(crate::specs::Elaboration::elaborate_all))]
 pub fn elaborate_all<'a>(
     alloc: Global,
     around: Around,
@@ -207,7 +207,7 @@ fn push_one(out: &mut Vec<Statement>, answer: Result<Statement, TypeError>) -> R
 
 // A statement's core statements, behind those that are there.
 #[cycle(statements)]
-#[tactic(auto, unfolding(texts::specs::Elaboration::elaborate_statement))]
+#[tactic(auto, unfolding(crate::specs::Elaboration::elaborate_statement))]
 fn elaborate_statement<'a>(
     alloc: Global,
     around: Around,

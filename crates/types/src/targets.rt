@@ -1,8 +1,8 @@
 //! What an assignment may have on its left.
 
 ghost use Rattle.std.specs.Option.{option_map};
-ghost use Rattle.texts.specs.Elaboration as elaboration;
-ghost use Rattle.texts.specs.TypeFaults as rules;
+ghost use Rattle.types.specs.Elaboration as elaboration;
+ghost use Rattle.types.specs.TypeFaults as rules;
 ghost use Rattle.words.specs.View.{kind as kind_of};
 ghost use Rattle.core_code.specs.View.{site};
 ghost use Rattle.types.specs.Names.{meaning_seen};

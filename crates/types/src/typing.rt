@@ -5,8 +5,8 @@ ghost use Rattle.std.specs.Option.{option_map};
 ghost use Rattle.semantics.specs.Core as core;
 ghost use Rattle.semantics.specs.Word as word;
 ghost use Rattle.texts.specs.Surface as surface;
-ghost use Rattle.texts.specs.TypeFaults as rules;
-ghost use Rattle.texts.specs.Typing as typing;
+ghost use Rattle.types.specs.TypeFaults as rules;
+ghost use Rattle.types.specs.Typing as typing;
 ghost use Rattle.words.specs.View.{kind};
 ghost use Rattle.syntax.specs.View.{expression, expressions, infix_sign, prefix_sign};
 ghost use Rattle.core_code.specs.View.{site};
@@ -446,7 +446,7 @@ fn pick_of_two(
 }
 
 #[cycle(typing)]
-#[tactic(auto, using(crate::proofs::Arguments::counted), unfolding(texts::specs::Typing::type_of))]
+#[tactic(auto, using(crate::proofs::Arguments::counted), unfolding(crate::specs::Typing::type_of))]
 fn call_term(
     alloc: Global,
     scope: &Scope,
@@ -483,7 +483,7 @@ fn call_term(
 /// The kind and the term of an expression, where it is well typed among the visible names, for these devices; else its first broken rule,
 /// from left to right.
 #[cycle(typing)]
-#[tactic(auto, using(syntax::proofs::Rows::seen_call), unfolding(texts::specs::Typing::type_of))]
+#[tactic(auto, using(syntax::proofs::Rows::seen_call), unfolding(crate::specs::Typing::type_of))]
 pub fn type_of(alloc: Global, scope: &Scope, e: &Expr) -> Result<TypedTerm, TypeError>
     ensures { IsTyped result (typing.type_of (devices scope.now.devices) (names scope.now.visible) (expression e.now)) }
 {

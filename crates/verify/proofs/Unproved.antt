@@ -1,6 +1,6 @@
 -- What the check refuses of a certificate that was found is told of the texts.
 use Rattle.std.specs.Prelude.{ℕ, List, Bool}
-use Rattle.reading.specs.Kernels.{Source}
+use Rattle.kernel_reading.specs.Kernels.{Source}
 use Rattle.cert_check.specs.Refusing.{RefusesBy}
 use Rattle.cert_check.specs.declared.error.CheckError.{CheckError}
 use Rattle.cert_check.specs.declared.error.CheckError.TheVariants as checks

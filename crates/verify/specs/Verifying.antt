@@ -2,13 +2,13 @@
 use Rattle.std.specs.Prelude.{◌≡◌, ℕ, List, Bool, false, Ok}
 use Rattle.certificate_text.specs.Certificate.{Certificate}
 use Rattle.certificate_text.specs.NumberedText.{text_of_two}
-use Rattle.texts.specs.ConditionsReading.{conditions_of}
+use Rattle.launch_text.specs.ConditionsReading.{conditions_of}
 use Rattle.kernel_names.specs.View.{names_seen}
 use Rattle.core_code.specs.View.{kernel as core_seen}
 use Rattle.launch.specs.View.{conditions as conditions_seen}
 use Rattle.launch_text.specs.View.{lined}
-use Rattle.reading.specs.Kernels.{read, Source}
-use Rattle.reading.specs.Answers.{kernel_seen}
+use Rattle.kernel_reading.specs.Kernels.{read, Source}
+use Rattle.kernel_reading.specs.Answers.{kernel_seen}
 use Rattle.cert_check.specs.Accepting.{IsAcceptedBy, HasHeadline}
 use Rattle.cert_check.specs.Refusing.{IsPassedBy}
 use Rattle.cert_check.specs.View.{typed_of, kept}

@@ -4,17 +4,16 @@ ghost use Rattle.std.specs.Prelude.{◌≡◌, ℕ, List, Bool, true, false, IfO
 ghost use Rattle.certificate.specs.Certificates.{certificate as certificate_seen};
 ghost use Rattle.cert_check.specs.Refusing.{RefusesBy};
 ghost use Rattle.proof_search.specs.Searching.{AreSearched, IsCount, TellsOf, text_by};
-ghost use Rattle.texts.specs.Scope.{Bits32};
-ghost use Rattle.reading.specs.Kernels as kernels;
-ghost use Rattle.reading.specs.Kernels.{text_for};
-ghost use Rattle.reading.specs.Sources.{source};
+ghost use Rattle.kernel_reading.specs.Kernels as kernels;
+ghost use Rattle.kernel_reading.specs.Kernels.{text_for};
+ghost use Rattle.kernel_reading.specs.Sources.{source};
 ghost use Rattle.verify.specs.Verifying.{IsVerified, IsVerifiedBy};
 
 use cert_check::error::{CheckError, ShowError};
 use cert_check::{Accepted, check_as};
 use certificate::Certificate;
+use kernel_reading::{Source, narrow};
 use proof_search::{Effort, Found, Unwatched, VerifyError, Watcher, find_watched};
-use reading::{Source, narrow};
 use std::alloc::Global;
 use std::sync::Wait;
 use std::thread::Threads;
@@ -145,9 +144,9 @@ pub fn verify<R: Threads + Wait + Sync>(
     conditions: &[u8],
     workers: u32,
 ) -> Result<Verified, VerifyError>
-    ensures verified { IfOk result (λ v. IsVerified (text_for Bits32 kernel.now) conditions.now (certificate_seen v.certificate) v.accepted) }
+    ensures verified { IfOk result (λ v. IsVerified (text_for kernels.narrow kernel.now) conditions.now (certificate_seen v.certificate) v.accepted) }
     ensures workers { IfOk result (λ _. IsCount workers) }
-    ensures told { IfErr result (λ e. TellsOf false e workers (text_for Bits32 kernel.now) conditions.now) }
+    ensures told { IfErr result (λ e. TellsOf false e workers (text_for kernels.narrow kernel.now) conditions.now) }
 {
     let effort = Effort {
         workers,

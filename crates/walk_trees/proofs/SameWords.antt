@@ -3,18 +3,7 @@ use Rattle.std.proofs.Common.{◌≡◌, Bool, true, false, ◌&&◌, List, [], 
 use Rattle.std.specs.Ordering.{int_eq}
 use Rattle.std.proofs.lemmas.Bool.{and_parts, and_from}
 use Rattle.std.proofs.lemmas.Bool.Decides.{Decides-int_eq}
-use Rattle.semantics.specs.Word.{Kind, Int, Uint, Size, Word}
-
-abbrev pub same_kind : Kind → Kind → Bool
-same_kind Int Int = true
-same_kind Int Uint = false
-same_kind Int Size = false
-same_kind Uint Int = false
-same_kind Uint Uint = true
-same_kind Uint Size = false
-same_kind Size Int = false
-same_kind Size Uint = false
-same_kind Size Size = true
+use Rattle.semantics.specs.Word.{same_kind, Kind, Int, Uint, Size, Word}
 
 abbrev pub same_word : Word → Word → Bool
 same_word a b = same_kind a.kind b.kind && int_eq a.value b.value

@@ -1,7 +1,8 @@
 -- Ways that are joined: in place of a fork new symbols say how much each of two numbers is more than the other one. One of the two is 0,
 -- and so is their product.
 use Rattle.std.specs.Prelude.{ℤ, pos, negsuc, List, [], ◌∷◌, ◌++◌, Bool, true, false, ◌&&◌, int_le, Option, Some, None}
-use Rattle.semantics.specs.Word.{Kind, Int, Uint, Size}
+use Rattle.semantics.specs.Word.{Kind}
+pub use Rattle.semantics.specs.Word.{same_kind}
 use Rattle.linear.specs.Exact.{sum, multiple, fits}
 use Rattle.domain.specs.declared.Domain.{Ghosts}
 use Rattle.facts.specs.Symbols.{Fact, constant, minus, equals}
@@ -72,14 +73,3 @@ abbrev pub pick_joined : {E : Type 0} → Setting E → (is_greater : Bool) → 
 pick_joined s g k x y st go =
     invent s (picked_element s g st x y) st (λ m st1.
     invent_excesses s (minus y x) (minus x y) st1 (λ p q st2. know_all (picked_facts g x y m p q) (go (value k m) st2)))
-
-abbrev pub same_kind : Kind → Kind → Bool
-same_kind Int Int = true
-same_kind Int Uint = false
-same_kind Int Size = false
-same_kind Uint Int = false
-same_kind Uint Uint = true
-same_kind Uint Size = false
-same_kind Size Int = false
-same_kind Size Uint = false
-same_kind Size Size = true

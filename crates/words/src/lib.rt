@@ -13,6 +13,6 @@ mod word;
 pub use gate::{Gate, Moment, Open};
 pub use word::{
     Fault, Kind, Word, add, bit_and, bit_or, bit_xor, convert, count_of, div, is_zero, larger,
-    less, mul, neg, not, power, read_as, rem, settle, shift_left, shift_right, shl, shr, smaller,
-    sub, truth,
+    less, mul, neg, not, power, read_as, rem, same_kind, settle, shift_left, shift_right, shl, shr,
+    smaller, sub, truth,
 };

@@ -33,6 +33,18 @@ pub enum Fault {
     OutOfBounds = 3,
 }
 
+/// Whether two kinds are the same.
+pub fn same_kind(left: Kind, right: Kind) -> bool
+    ensures { result ≡ semantics.same_kind (kind left) (kind right) }
+{
+    match (left, right) {
+        (Kind::Int, Kind::Int) | (Kind::Uint, Kind::Uint) | (Kind::Size, Kind::Size) => true,
+        (Kind::Int, Kind::Uint) | (Kind::Int, Kind::Size) => false,
+        (Kind::Uint, Kind::Int) | (Kind::Uint, Kind::Size) => false,
+        (Kind::Size, Kind::Int) | (Kind::Size, Kind::Uint) => false,
+    }
+}
+
 impl Fault {
     /// The number by which the fault is printed: 2 for `F2`.
     pub fn number(self) -> u8

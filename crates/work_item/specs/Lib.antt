@@ -4,4 +4,3 @@ pub mod Left
 pub mod Items
 pub mod Asks
 pub mod Rests
-pub mod Reckoned

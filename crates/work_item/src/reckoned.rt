@@ -2,7 +2,7 @@
 
 ghost use Rattle.std.specs.Prelude.{◌≡◌};
 ghost use Rattle.core_code.specs.View.{term as term_seen, statement as statement_seen, statements as statements_seen, kernel as kernel_seen};
-ghost use Rattle.work_item.specs.Reckoned as specs;
+ghost use Rattle.semantics.specs.Machines as specs;
 
 use crate::proper::all_three;
 use core_code::tree::{Core, Statement, Term};

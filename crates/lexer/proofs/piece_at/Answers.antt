@@ -1,6 +1,6 @@
 use Rattle.std.proofs.Common.{◌≡◌, ◌∙◌, sym, subst, take, length}
 use Rattle.std.specs.List.{prefix_len}
-use Rattle.texts.specs.Tokens.{is_word_byte}
+use Rattle.lines.specs.Bytes.{is_word_byte}
 use Rattle.texts.proofs.Reading.{run}
 use Rattle.lexer.proofs.Pieces.{word_piece}
 use Rattle.lexer.specs.Seen.{kind}

@@ -1,5 +1,5 @@
-use Rattle.reading.specs.Sources.{source}
-use Rattle.reading.specs.Answers.{kernel_seen}
+use Rattle.kernel_reading.specs.Sources.{source}
+use Rattle.kernel_reading.specs.Answers.{kernel_seen}
 use Rattle.kernel_names.specs.View.{names_seen}
 use Rattle.launch.specs.View.{conditions}
 use Rattle.launch_text.specs.View.{lined}

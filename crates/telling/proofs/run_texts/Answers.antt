@@ -1,16 +1,16 @@
-use Rattle.reading.specs.Sources.{source}
+use Rattle.kernel_reading.specs.Sources.{source}
 use Rattle.std.proofs.Common.{◌≡◌, ap, ◌∙◌, subst}
 use Rattle.std.specs.Prelude.{Ok}
 use Rattle.std.specs.String.{string_bytes}
 use Rattle.semantics.specs.Launch.{Fits}
-use Rattle.texts.specs.LaunchReading.{launch_of}
-use Rattle.texts.specs.LaunchText.{buffers_text}
+use Rattle.launch_text.specs.LaunchReading.{launch_of}
+use Rattle.launch_text.specs.LaunchText.{buffers_text}
 use Rattle.kernel_names.specs.View.{names_seen}
 use Rattle.core_code.specs.View.{kernel as core}
 use Rattle.launch.specs.View.{conditions, launch}
 use Rattle.launch_text.specs.View as reading
 use Rattle.launch_text.specs.View.{lined}
-use Rattle.reading.specs.Answers.{kernel_seen}
+use Rattle.kernel_reading.specs.Answers.{kernel_seen}
 use Rattle.cert_check.specs.View.{typed_of, kept}
 use Rattle.telling.proofs.Meanings.{is_safe, is_run}
 use Rattle.launch_text.specs.Answers as texts

@@ -7,9 +7,9 @@ use Rattle.semantics.specs.Conditions.{Conditions}
 use Rattle.launch.specs.View.{conditions}
 use Rattle.launch_text.specs.View.{lined}
 use Rattle.launch_text.proofs.LeastFits.{conditions_meant}
-use Rattle.texts.specs.ConditionsReading.{meant}
-use Rattle.reading.specs.Answers.{kernel_seen}
-use Rattle.reading.specs.Sources.{source}
+use Rattle.launch_text.specs.ConditionsReading.{meant}
+use Rattle.kernel_reading.specs.Answers.{kernel_seen}
+use Rattle.kernel_reading.specs.Sources.{source}
 use Rattle.plain_kernels.specs.Kernels.{HasLimits}
 use Rattle.cert_check.specs.Accepting.{IsAcceptedWithin}
 use Rattle.cert_check.specs.Checked.{StopsBy}

@@ -1,5 +1,5 @@
 use Rattle.std.proofs.Common.{◌≡◌, ◌+◌, ◌≤◌, ◌^◌, true, length}
-use Rattle.texts.specs.Lines.{is_empty}
+use Rattle.lines.specs.Lines.{is_empty}
 use Rattle.lines.specs.Left.{left}
 use Rattle.certificate.specs.EntriesLeft.{entries_left}
 use Rattle.certificate.specs.EntryAnswers.{left_at}

@@ -1,6 +1,6 @@
 use Rattle.std.proofs.Common.{ap, sym, ◌∙◌, ◌∷◌, map}
 use Rattle.std.proofs.lemmas.List.{map_push}
-use Rattle.texts.specs.Lines.{follows}
+use Rattle.lines.specs.Lines.{follows}
 use Rattle.certificate_text.specs.Lines.{line_is_before, sum_of}
 use Rattle.lines.specs.Left.{left}
 use Rattle.certificate.specs.View as view

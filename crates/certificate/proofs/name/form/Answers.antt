@@ -1,7 +1,7 @@
 use Rattle.std.proofs.Common.{ap, sym, ◌∙◌, ◌∷◌, ◌&&◌, map}
 use Rattle.std.specs.Prelude.{bytes_eq, codes}
 use Rattle.std.proofs.lemmas.List.{map_push}
-use Rattle.texts.specs.Lines.{follows}
+use Rattle.lines.specs.Lines.{follows}
 use Rattle.certificate_text.specs.Forms.{term_is_before, form_of}
 use Rattle.lines.specs.Left.{left}
 use Rattle.certificate.specs.View as view

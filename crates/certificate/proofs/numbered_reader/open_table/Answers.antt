@@ -1,5 +1,5 @@
 use Rattle.std.proofs.Common.{true, length, ap, sym, ◌∙◌, arith}
-use Rattle.texts.specs.Lines.{is_empty}
+use Rattle.lines.specs.Lines.{is_empty}
 use Rattle.certificate_text.specs.NumberedReading.{NumberedDraft, read_numbered}
 use Rattle.certificate_text.proofs.NumberedSteps.{table_row, table_over}
 use Rattle.lines.specs.Left.{left}

@@ -1,6 +1,6 @@
 use Rattle.std.proofs.Common.{◌++◌, map}
 use Rattle.std.specs.String.{string_bytes}
-use Rattle.texts.specs.Lines.{text_of_lines}
+use Rattle.lines.specs.Lines.{text_of_lines}
 use Rattle.certificate.specs.NumberedLines.{multiple_line}
 use Rattle.certificate.specs.View as view
 use Rattle.certificate.specs.Tables.{table}

@@ -1,7 +1,7 @@
 use Rattle.std.proofs.Common.{◌≡◌, ◌++◌, drop, map}
 use Rattle.std.specs.List.{flat_map}
 use Rattle.std.specs.String.{string_bytes}
-use Rattle.texts.specs.Lines.{text_of_lines}
+use Rattle.lines.specs.Lines.{text_of_lines}
 use Rattle.certificate.specs.NumberedLines.{place_lines}
 use Rattle.certificate.specs.View as view
 use Rattle.certificate.specs.Tables.{table}

@@ -1,6 +1,6 @@
 use Rattle.std.proofs.Common.{◌≡◌, ◌++◌, drop, map}
 use Rattle.std.specs.String.{string_bytes}
-use Rattle.texts.specs.Lines.{text_of_lines}
+use Rattle.lines.specs.Lines.{text_of_lines}
 use Rattle.certificate_text.specs.NumberedText.{table_line}
 use Rattle.certificate.specs.Tables.{table}
 use Rattle.certificate.proofs.numbered_writer.push_table.Given as goal

@@ -1,5 +1,5 @@
 use Rattle.std.proofs.Common.{◌≡◌, ◌+◌, ◌≤◌, ◌^◌, true, false, length}
-use Rattle.texts.specs.Lines.{is_empty}
+use Rattle.lines.specs.Lines.{is_empty}
 use Rattle.lines.specs.Left.{left}
 use Rattle.certificate.specs.Drafts.{opened}
 use Rattle.certificate.specs.EntriesLeft.{has_begun, read_rows}

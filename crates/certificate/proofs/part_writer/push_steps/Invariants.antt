@@ -1,6 +1,6 @@
 use Rattle.std.proofs.Common.{◌≡◌, ◌++◌, drop, map}
 use Rattle.std.specs.String.{string_bytes}
-use Rattle.texts.specs.Lines.{text_of_lines}
+use Rattle.lines.specs.Lines.{text_of_lines}
 use Rattle.certificate_text.specs.Text as text
 use Rattle.certificate.specs.View as view
 use Rattle.certificate.proofs.part_writer.push_steps.Given as goal

@@ -1,6 +1,6 @@
 use Rattle.std.proofs.Common.{◌≡◌, drop, map}
 use Rattle.std.specs.String.{string_bytes}
-use Rattle.texts.specs.Identifiers.{is_identifier}
+use Rattle.lines.specs.Identifiers.{is_identifier}
 use Rattle.certificate_text.specs.Rules as rules
 use Rattle.certificate.proofs.proper.are_identifiers.Given as goal
 

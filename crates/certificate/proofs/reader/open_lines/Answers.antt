@@ -1,5 +1,5 @@
 use Rattle.std.proofs.Common.{false, ap, sym, arith}
-use Rattle.texts.specs.Lines.{is_empty}
+use Rattle.lines.specs.Lines.{is_empty}
 use Rattle.certificate_text.specs.NumberedReading.{NumberedDraft}
 use Rattle.lines.specs.Left.{left}
 use Rattle.certificate.specs.EntriesLeft.{has_begun, read_rows}

@@ -1,5 +1,5 @@
 use Rattle.std.proofs.Common.{◌≡◌, drop}
-use Rattle.texts.specs.Identifiers.{all_word_bytes}
+use Rattle.lines.specs.Identifiers.{all_word_bytes}
 use Rattle.certificate.proofs.word.are_word_bytes.Given as goal
 
 abbrev pub invariant-loop-b : goal.invariant-loop-b

@@ -1,6 +1,6 @@
 use Rattle.std.proofs.Common.{◌≡◌, drop, map}
-use Rattle.texts.specs.LaunchWords.{each}
-use Rattle.texts.specs.ConditionsReading.{argument_due, argument_lines}
+use Rattle.launch_text.specs.LaunchWords.{each}
+use Rattle.launch_text.specs.ConditionsReading.{argument_due, argument_lines}
 use Rattle.syntax.specs.View.{parameter}
 use Rattle.launch_text.specs.Answers.{cursor}
 use Rattle.launch_text.specs.View.{arguments}

@@ -1,7 +1,7 @@
 use Rattle.std.proofs.Common.{◌≡◌, [], map}
 use Rattle.std.specs.Prelude.{codes}
-use Rattle.texts.specs.LaunchWords.{several}
-use Rattle.texts.specs.ConditionsReading.{requirement_line}
+use Rattle.launch_text.specs.LaunchWords.{several}
+use Rattle.launch_text.specs.ConditionsReading.{requirement_line}
 use Rattle.syntax.specs.View.{parameter}
 use Rattle.launch_text.specs.Answers.{cursor}
 use Rattle.launch_text.specs.View.{requirements}

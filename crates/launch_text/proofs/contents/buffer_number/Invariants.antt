@@ -1,5 +1,5 @@
 use Rattle.std.proofs.Common.{◌≡◌, ◌≤◌, drop, map}
-use Rattle.texts.specs.LaunchSums.{buffer_number}
+use Rattle.launch_text.specs.LaunchSums.{buffer_number}
 use Rattle.syntax.specs.View.{parameter}
 use Rattle.launch_text.proofs.contents.buffer_number.Given as goal
 

@@ -1,8 +1,8 @@
 use Rattle.std.proofs.Common.{rules, ◌-◌, map, List, ap, sym, ◌∙◌}
 use Rattle.std.specs.Prelude.{codes}
 use Rattle.std.proofs.lemmas.List.{map_push}
-use Rattle.texts.specs.LaunchWords.{several}
-use Rattle.texts.specs.ConditionsReading as meaning
+use Rattle.launch_text.specs.LaunchWords.{several}
+use Rattle.launch_text.specs.ConditionsReading as meaning
 use Rattle.syntax.specs.View.{parameter}
 use Rattle.launch_text.specs.Answers.{cursor}
 use Rattle.launch_text.specs.View as view

@@ -1,6 +1,6 @@
 use Rattle.std.proofs.Common.{◌≡◌, ◌+◌, drop}
 use Rattle.std.specs.List.{prefix_len}
-use Rattle.texts.specs.LaunchWords.{is_in_word}
+use Rattle.launch_text.specs.LaunchWords.{is_in_word}
 use Rattle.launch_text.proofs.keyword.word_length.Given as goal
 
 abbrev pub invariant-loop-i : goal.invariant-loop-i

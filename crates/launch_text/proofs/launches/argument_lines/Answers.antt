@@ -2,8 +2,8 @@ use Rattle.std.proofs.Common.{rules, ◌+◌, drop, map, List, Some, ap, sym, �
 use Rattle.std.proofs.lemmas.List.{map_push}
 use Rattle.words.specs.View.{kind, word}
 use Rattle.semantics.specs.Word.{Word}
-use Rattle.texts.specs.LaunchWords.{each}
-use Rattle.texts.specs.LaunchReading as meaning
+use Rattle.launch_text.specs.LaunchWords.{each}
+use Rattle.launch_text.specs.LaunchReading as meaning
 use Rattle.syntax.specs.View.{parameter}
 use Rattle.launch_text.specs.Answers.{cursor}
 use Rattle.launch_text.specs.View as view

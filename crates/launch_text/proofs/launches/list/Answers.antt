@@ -2,9 +2,9 @@ use Rattle.std.proofs.Common.{rules, ◌-◌, map, List, ap, sym, ◌∙◌}
 use Rattle.std.proofs.lemmas.List.{map_push}
 use Rattle.semantics.specs.Word.{Word}
 use Rattle.words.specs.View.{kind, word}
-use Rattle.texts.specs.LaunchFaults as texts
-use Rattle.texts.specs.LaunchWords.{word_at}
-use Rattle.texts.specs.LaunchReading.{list_at}
+use Rattle.launch_text.specs.LaunchFaults as texts
+use Rattle.launch_text.specs.LaunchWords.{word_at}
+use Rattle.launch_text.specs.LaunchReading.{list_at}
 use Rattle.launch_text.specs.Answers.{cursor, read}
 use Rattle.launch_text.specs.View as view
 use Rattle.launch_text.proofs.Lists.{behind_word, list_over, list_due, list_spent, list_more}

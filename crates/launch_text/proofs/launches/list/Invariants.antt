@@ -1,6 +1,6 @@
 use Rattle.std.proofs.Common.{◌≡◌, []}
 use Rattle.words.specs.View.{kind}
-use Rattle.texts.specs.LaunchReading.{list_at}
+use Rattle.launch_text.specs.LaunchReading.{list_at}
 use Rattle.launch_text.specs.Answers.{cursor}
 use Rattle.launch_text.specs.View as view
 use Rattle.launch_text.proofs.launches.list.Given as goal

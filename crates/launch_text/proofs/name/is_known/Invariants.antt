@@ -1,5 +1,5 @@
 use Rattle.std.proofs.Common.{◌≡◌, drop, map}
-use Rattle.texts.specs.LaunchWords.{is_known}
+use Rattle.launch_text.specs.LaunchWords.{is_known}
 use Rattle.syntax.specs.View.{parameter}
 use Rattle.launch_text.proofs.name.is_known.Given as goal
 

@@ -1,6 +1,6 @@
 use Rattle.std.proofs.Common.{◌≡◌, ◌+◌, drop}
 use Rattle.std.specs.List.{prefix_len}
-use Rattle.texts.specs.Numbers.{is_decimal_digit}
+use Rattle.lines.specs.Bytes.{is_decimal_digit}
 use Rattle.launch_text.proofs.number.digits_length.Given as goal
 
 abbrev pub invariant-loop-i : goal.invariant-loop-i

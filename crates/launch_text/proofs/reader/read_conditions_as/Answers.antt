@@ -1,6 +1,6 @@
 use Rattle.std.proofs.Common.{◌≡◌, map, Ok, ap, sym, ◌∙◌, subst}
 use Rattle.semantics.specs.Conditions as meaning
-use Rattle.texts.specs.ConditionsReading.{conditions_of}
+use Rattle.launch_text.specs.ConditionsReading.{conditions_of}
 use Rattle.kernel_names.specs.View.{names_seen}
 use Rattle.syntax.specs.View.{parameter}
 use Rattle.core_code.specs.View.{kernel as core_of}

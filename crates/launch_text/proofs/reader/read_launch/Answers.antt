@@ -1,6 +1,6 @@
 use Rattle.std.proofs.Common.{◌≡◌, map, Ok, ap, sym, ◌∙◌, subst}
 use Rattle.semantics.specs.Launch as meaning
-use Rattle.texts.specs.LaunchReading.{launch_of}
+use Rattle.launch_text.specs.LaunchReading.{launch_of}
 use Rattle.kernel_names.specs.View.{names_seen}
 use Rattle.syntax.specs.View.{parameter}
 use Rattle.core_code.specs.View.{kernel as core_of}

@@ -1,8 +1,8 @@
 use Rattle.std.proofs.Common.{rules, ◌-◌, map, List, Ok, ap, sym, ◌∙◌, arith}
 use Rattle.std.proofs.lemmas.List.{map_push}
 use Rattle.semantics.specs.Conditions.{Summand}
-use Rattle.texts.specs.LaunchFaults as texts
-use Rattle.texts.specs.LaunchSums.{sum_at}
+use Rattle.launch_text.specs.LaunchFaults as texts
+use Rattle.launch_text.specs.LaunchSums.{sum_at}
 use Rattle.syntax.specs.View.{parameter}
 use Rattle.launch.specs.View.{summand}
 use Rattle.launch_text.specs.Answers.{cursor, read}

@@ -1,5 +1,5 @@
 use Rattle.std.proofs.Common.{◌≡◌, ◌+◌, [], map, vec_len}
-use Rattle.texts.specs.LaunchSums.{sum_at}
+use Rattle.launch_text.specs.LaunchSums.{sum_at}
 use Rattle.syntax.specs.View.{parameter}
 use Rattle.launch.specs.View.{summand}
 use Rattle.launch_text.specs.Answers.{cursor}

@@ -1,6 +1,6 @@
 use Rattle.std.proofs.Common.{◌≡◌, ◌≤◌, ◌++◌, drop, map}
 use Rattle.std.specs.String.{string_bytes}
-use Rattle.texts.specs.LaunchText as text
+use Rattle.launch_text.specs.LaunchText as text
 use Rattle.syntax.specs.View.{parameter}
 use Rattle.launch_text.specs.View as view
 use Rattle.launch_text.proofs.writer.push_buffers.Given as goal

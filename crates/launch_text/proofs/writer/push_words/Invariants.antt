@@ -1,7 +1,7 @@
 use Rattle.std.proofs.Common.{◌≡◌, ◌++◌, drop, map}
 use Rattle.std.specs.List.{flat_map}
 use Rattle.std.specs.String.{string_bytes}
-use Rattle.texts.specs.LaunchText as text
+use Rattle.launch_text.specs.LaunchText as text
 use Rattle.words.specs.View as view
 use Rattle.launch_text.proofs.writer.push_words.Given as goal
 

@@ -1,6 +1,6 @@
 use Rattle.std.proofs.Common.{◌≡◌, ◌+◌, ◌-◌, ◌*◌, drop}
 use Rattle.std.specs.Prelude.{fold}
-use Rattle.texts.specs.Lines.{value_of}
+use Rattle.lines.specs.Lines.{value_of}
 use Rattle.lines.proofs.number.value_of.Given as goal
 
 abbrev pub invariant-loop-b : goal.invariant-loop-b

@@ -1,7 +1,7 @@
 use Rattle.std.proofs.Common.{◌≡◌, sym, subst, take, length}
 use Rattle.std.specs.List.{prefix_len}
 use Rattle.std.proofs.lemmas.Str.{IsUtf8-from_ascii}
-use Rattle.texts.specs.Tokens.{is_word_byte}
+use Rattle.lines.specs.Bytes.{is_word_byte}
 use Rattle.texts.proofs.Reading.{run}
 use Rattle.opencl_tokens.proofs.Spans.{word_ascii}
 use Rattle.opencl_tokens.proofs.pieces.name_at.Goals as goal

@@ -1,6 +1,6 @@
 use Rattle.std.proofs.Common.{◌≡◌, ◌+◌, drop}
 use Rattle.std.specs.List.{prefix_len}
-use Rattle.texts.specs.Tokens.{is_word_byte}
+use Rattle.lines.specs.Bytes.{is_word_byte}
 use Rattle.opencl_tokens.proofs.pieces.word_len.Given as goal
 
 abbrev pub invariant-loop-i : goal.invariant-loop-i

@@ -1,7 +1,7 @@
 use Rattle.std.proofs.Common.{[], refl, subst}
 use Rattle.std.specs.Prelude.{None}
-use Rattle.types.specs.Names.{devices as devices_seen}
-use Rattle.reading.specs.Kernels.{text_for}
+use Rattle.kernel_reading.specs.Kernels.{text_under}
+use Rattle.kernel_reading.specs.Sources.{reading as reading_seen}
 use Rattle.telling.specs.Verdicts.{Checks}
 use Rattle.program.specs.Running as running
 use Rattle.program.proofs.one_run.checked.Goals as goal
@@ -9,13 +9,13 @@ use Rattle.program.proofs.one_run.checked.Goals as goal
 pub returns-clause-verdict : goal.returns-clause-verdict
 returns-clause-verdict g c = λ ws command names.
     let found = c.in_ok-found.found in
-    let d = devices_seen c.args.names.devices in
-    let kernel = text_for d found.kernel.items in
+    let d = reading_seen c.args.names.reading in
+    let kernel = text_under d found.conditions.items found.kernel.items in
     record {
       request = running.Check c.args.names.kernel.now c.args.names.conditions.now c.args.names.certificate.now c.args.names.is_wide d;
       texts = record { kernel = found.kernel.items; conditions = found.conditions.items; certificate = found.certificate.items; launch = [] };
       saved = None;
-      asked = (command, names.kernel, names.conditions, names.certificate, names.wide, names.devices);
+      asked = (command, names.kernel, names.conditions, names.certificate, names.wide, names.reading);
       done = c.in_ok-found.ensures.reads;
       may_write = refl;
       is_told = (subst (λ t. Checks c.args.names.is_wide c.check_texts.result kernel found.conditions.items t) c.texts.ensures.certificate

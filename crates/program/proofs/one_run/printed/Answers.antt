@@ -1,7 +1,5 @@
 use Rattle.std.proofs.Common.{[], refl, subst}
 use Rattle.std.specs.Prelude.{None}
-use Rattle.texts.specs.Scope.{Bits32}
-use Rattle.reading.specs.Kernels.{text_for}
 use Rattle.telling.specs.Verdicts.{Prints}
 use Rattle.program.specs.Running as running
 use Rattle.program.proofs.one_run.printed.Goals as goal
@@ -16,5 +14,5 @@ returns-clause-verdict g c = λ ws command name.
       asked = (command, name);
       done = (c.text_of.new.files, c.in_ok-text.ensures.given, c.in_ok-text.ensures.text, refl);
       may_write = refl;
-      is_told = (subst (λ t. Prints c.print_text.result (text_for Bits32 t)) c.deref.ensures.value c.print_text.ensures);
+      is_told = subst (Prints c.print_text.result) c.deref.ensures.value c.print_text.ensures;
     }

@@ -1,4 +1,4 @@
-use Rattle.reading.specs.Sources.{source}
+use Rattle.kernel_reading.specs.Sources.{source}
 use Rattle.std.proofs.Common.{◌≡◌, subst}
 use Rattle.std.specs.Prelude.{None}
 use Rattle.arrivals.specs.Loops.{unmet}
@@ -6,7 +6,7 @@ use Rattle.places.specs.Answers.{IsRefused}
 use Rattle.kernel_names.specs.View.{names_seen}
 use Rattle.core_code.specs.View.{kernel}
 use Rattle.launch_text.specs.View.{lined}
-use Rattle.reading.specs.Answers.{kernel_seen}
+use Rattle.kernel_reading.specs.Answers.{kernel_seen}
 use Rattle.cert_check.proofs.Sizes.{sizes_fit}
 use Rattle.proof_search.proofs.Told.{all_told, counted, uncounted}
 use Rattle.proof_search.proofs.finding.find_watched.Goals as goal

@@ -1,6 +1,6 @@
 use Rattle.core_code.specs.View.{kernel}
-use Rattle.reading.specs.Answers.{kernel_seen}
-use Rattle.reading.specs.Sources.{source}
+use Rattle.kernel_reading.specs.Answers.{kernel_seen}
+use Rattle.kernel_reading.specs.Sources.{source}
 use Rattle.cert_check.proofs.Sizes.{sizes_fit}
 use Rattle.proof_search.proofs.leaving.left_by.Goals as goal
 

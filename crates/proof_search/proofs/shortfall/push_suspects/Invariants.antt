@@ -1,4 +1,4 @@
-use Rattle.types.specs.TypedKernel.{TypedKernel}
+use Rattle.typed_kernels.specs.TypedKernel.{TypedKernel}
 use Rattle.launch.specs.declared.conditions.Conditions.{Conditions}
 use Rattle.proof_search.specs.Findings.{AreTrue}
 use Rattle.proof_search.proofs.shortfall.push_suspects.Given as goal

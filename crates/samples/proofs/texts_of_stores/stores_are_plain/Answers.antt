@@ -1,6 +1,6 @@
 use Rattle.samples.proofs.StoresRead.{stores_read, plain_there}
 use Rattle.samples.specs.Stores.{stores, kernel_of}
-use Rattle.texts.specs.Scope.{Bits32}
+use Rattle.types.specs.Scope.{Bits32}
 use Rattle.reading.specs.Kernels.{read, text_for}
 use Rattle.samples.proofs.texts_of_stores.stores_are_plain.Goals as goal
 

@@ -1,5 +1,5 @@
 use Rattle.std.proofs.Common.{refl}
-use Rattle.texts.specs.Typing.{type_of, types_of, function_named, left_out_names, is_left_out}
+use Rattle.types.specs.Typing.{type_of, types_of, function_named, left_out_names, is_left_out}
 use Rattle.samples.proofs.typing.narrow_ids_are_uints.Goals as goal
 
 pub returns : goal.returns

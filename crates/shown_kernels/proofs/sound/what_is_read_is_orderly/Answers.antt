@@ -1,4 +1,4 @@
-use Rattle.shown_kernels.proofs.Slots.{read-orderly}
+use Rattle.shown_kernels.proofs.FormedReads.{read-orderly}
 use Rattle.shown_kernels.proofs.sound.what_is_read_is_orderly.Goals as goal
 
 pub returns : goal.returns

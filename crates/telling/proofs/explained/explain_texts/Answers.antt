@@ -1,4 +1,4 @@
-use Rattle.reading.specs.Sources.{source}
+use Rattle.kernel_reading.specs.Sources.{source}
 use Rattle.telling.proofs.ProvingMeanings.{explains_proved}
 use Rattle.telling.proofs.explained.explain_texts.Goals as goal
 

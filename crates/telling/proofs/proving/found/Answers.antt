@@ -1,16 +1,15 @@
-use Rattle.reading.specs.Sources.{source}
+use Rattle.kernel_reading.specs.Sources.{source}
 use Rattle.std.proofs.Common.{◌≡◌, sym, subst}
 use Rattle.std.specs.Prelude.{IfSome}
 use Rattle.semantics.specs.Conditions.{Meets}
-use Rattle.reading.specs.Answers.{kernel_seen}
+use Rattle.kernel_reading.specs.Answers.{kernel_seen}
+use Rattle.kernel_reading.proofs.KernelReads.{told-parameters}
 use Rattle.kernel_names.specs.View.{names_seen}
 use Rattle.core_code.specs.View.{kernel as core}
-use Rattle.syntax.specs.View.{kernel as tree}
 use Rattle.launch.specs.Least.{probe}
 use Rattle.launch.specs.View.{conditions}
 use Rattle.launch_text.specs.View.{lined}
 use Rattle.launch_text.proofs.ConditionsFit.{conditions_fit}
-use Rattle.types.proofs.Parameters.{tells_parameters}
 use Rattle.cert_check.specs.Refusing.{IsPassedBy}
 use Rattle.cert_check.specs.View.{typed_of, kept}
 use Rattle.telling.specs.Proving.{proved_lines}
@@ -26,7 +25,7 @@ returns-in-Ok-lines-clause-proved g c =
     let o = c.args.conditions.now in
     let is = c.in-Ok.ensures.verified in
     let text = c.bytes_are_the_text_of_what_is_read.ensures k (kernel_seen t) is.kernel in
-    let own = tells_parameters k.devices (tree t.2) (core t.1) (names_seen t.0) text.is_named text.is_typed in
+    let own = told-parameters k (kernel_seen t) is.kernel in
     let of = conditions_fit c.args.effort.is_wide (core t.1) (names_seen t.0).parameters own.0 own.1 o (lined (kept a)) is.conditions in (
       kernel_seen t,
       kept a,

@@ -2,8 +2,11 @@ use Rattle.syntax.specs.View.{kernel}
 use Rattle.core_code.specs.View.{kernel as core}
 use Rattle.kernel_names.specs.View.{names_seen}
 use Rattle.types.specs.Names.{devices}
-use Rattle.types.proofs.Parameters.{tells_parameters}
+use Rattle.types.proofs.Parameters.{few_parameters, tells_parameters}
 use Rattle.types.proofs.check.check_types.Goals as goal
+
+pub new-requires-clause-few : goal.new-requires-clause-few
+new-requires-clause-few c = few_parameters (kernel c.args.tree) c.in_ok-names.names c.in_ok-names.ensures c.requires
 
 pub new-requires-clause-parameters : goal.new-requires-clause-parameters
 new-requires-clause-parameters c =

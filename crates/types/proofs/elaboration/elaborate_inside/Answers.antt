@@ -1,5 +1,5 @@
 use Rattle.std.proofs.Common.{◌≡◌, length, rules, ap, ◌∙◌, arith}
-use Rattle.texts.specs.Scope.{empty_scope}
+use Rattle.types.specs.Scope.{empty_scope}
 use Rattle.syntax.specs.View.{kernel as tree_of}
 use Rattle.types.specs.Names.{devices, scope_seen, all_seen}
 use Rattle.types.proofs.Kernels.{kernel-done, kinds-behind}

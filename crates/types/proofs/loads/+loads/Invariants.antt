@@ -1,5 +1,5 @@
 use Rattle.std.proofs.Common.{◌≡◌, drop}
-use Rattle.texts.specs.Elaboration as elaboration
+use Rattle.types.specs.Elaboration as elaboration
 use Rattle.syntax.specs.View.{expressions}
 use Rattle.types.proofs.loads.+loads.Given as goal
 

@@ -4,7 +4,7 @@ use Rattle.semantics.specs.Core.{Loop, none}
 use Rattle.texts.specs.Declarations.{declared_in}
 use Rattle.texts.specs.Surface.{DeclareArray}
 use Rattle.words.specs.View.{kind}
-use Rattle.texts.specs.Elaboration.{elaborated, single, elaborate_statement, elaborate_assignment, barrier_of, inside, jump_to}
+use Rattle.types.specs.Elaboration.{elaborated, single, elaborate_statement, elaborate_assignment, barrier_of, inside, jump_to}
 use Rattle.syntax.proofs.Rows.{seen_if, seen_while, seen_for, seen_block}
 use Rattle.syntax.specs.View.{jump_word, statement as stmt, statements as stmts, first as first_of, assignment, expression}
 use Rattle.core_code.specs.View.{site as site_of}

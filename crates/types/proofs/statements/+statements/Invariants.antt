@@ -1,6 +1,6 @@
 use Rattle.std.proofs.Common.{◌≡◌, drop}
 use Rattle.texts.specs.Declarations.{declared_by}
-use Rattle.texts.specs.Elaboration as elaboration
+use Rattle.types.specs.Elaboration as elaboration
 use Rattle.syntax.specs.View.{statements as stmts}
 use Rattle.core_code.specs.View.{statements}
 use Rattle.types.specs.Names.{scope_seen}

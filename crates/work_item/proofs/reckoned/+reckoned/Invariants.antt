@@ -1,6 +1,6 @@
 use Rattle.std.proofs.Common.{◌≡◌, drop}
 use Rattle.core_code.specs.View.{statements}
-use Rattle.work_item.specs.Reckoned.{are_reckoned}
+use Rattle.semantics.specs.Machines.{are_reckoned}
 use Rattle.work_item.proofs.reckoned.+reckoned.Given as goal
 
 abbrev pub invariant-are_reckoned-loop-statement : goal.invariant-are_reckoned-loop-statement

@@ -2,7 +2,7 @@ use Rattle.std.proofs.Common.{◌+◌, ◌<◌, nat_eq, length, take, drop, ap, 
 use Rattle.std.specs.List.{position_or_len}
 use Rattle.std.proofs.lemmas.List.{take_rest}
 use Rattle.std.proofs.lemmas.List.Splits.{slice_split_first}
-use Rattle.texts.specs.Lines.{pieces}
+use Rattle.lines.specs.Lines.{pieces}
 use Rattle.lines.specs.Left.{rest_left}
 use Rattle.lines.proofs.pieces.Pieces.next.Goals as goal
 

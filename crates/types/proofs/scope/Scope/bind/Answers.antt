@@ -1,5 +1,5 @@
 use Rattle.std.proofs.Common.{◌≡◌, true, rules, sym, ◌∙◌, refl}
-use Rattle.texts.specs.Scope as scoping
+use Rattle.types.specs.Scope as scoping
 use Rattle.types.specs.Names.{scope_seen}
 use Rattle.types.proofs.Bindings.{bound}
 use Rattle.types.proofs.scope.Scope.bind.Goals as goal

@@ -1,5 +1,5 @@
 use Rattle.std.proofs.Common.{◌≡◌, map, drop, length}
-use Rattle.texts.specs.Elaboration.{declare_parameters}
+use Rattle.types.specs.Elaboration.{declare_parameters}
 use Rattle.syntax.specs.View.{parameter as parameter_of}
 use Rattle.types.specs.Names.{scope_seen}
 use Rattle.types.specs.Rooms.{HasRoom}

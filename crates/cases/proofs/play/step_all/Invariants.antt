@@ -1,5 +1,0 @@
-use Rattle.machine.specs.Worlds.{IsSound}
-use Rattle.cases.proofs.play.step_all.Given as goal
-
-abbrev pub invariant-loop-item : goal.invariant-loop-item
-invariant-loop-item l = IsSound l.world

@@ -1,9 +1,0 @@
-use Rattle.std.proofs.Common.{◌≡◌, ◌++◌, drop, map}
-use Rattle.std.specs.String.{string_bytes}
-use Rattle.texts.specs.Lines.{text_of_lines}
-use Rattle.certificate_text.specs.Text as text
-use Rattle.certificate.specs.View as view
-use Rattle.certificate.proofs.part_writer.push_bounds.Given as goal
-
-abbrev pub invariant-loop-bound : goal.invariant-loop-bound
-invariant-loop-bound l = string_bytes l.out ++ text_of_lines (map text.bound_line (map view.bound (drop l.bound-index l.bounds))) ≡ string_bytes l.initial.out ++ text_of_lines (map text.bound_line (map view.bound l.bounds))

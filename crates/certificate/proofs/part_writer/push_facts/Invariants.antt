@@ -1,9 +1,0 @@
-use Rattle.std.proofs.Common.{◌≡◌, ◌++◌, drop, map}
-use Rattle.std.specs.String.{string_bytes}
-use Rattle.texts.specs.Lines.{text_of_lines}
-use Rattle.certificate_text.specs.Text as text
-use Rattle.certificate.specs.View as view
-use Rattle.certificate.proofs.part_writer.push_facts.Given as goal
-
-abbrev pub invariant-loop-form : goal.invariant-loop-form
-invariant-loop-form l = string_bytes l.out ++ text_of_lines (map text.fact_line (map view.form (drop l.form-index l.forms))) ≡ string_bytes l.initial.out ++ text_of_lines (map text.fact_line (map view.form l.forms))

@@ -1,0 +1,4 @@
+pub mod Answers
+pub mod Kernels
+pub mod Sources
+pub mod Texts

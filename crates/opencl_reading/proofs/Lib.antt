@@ -1,0 +1,3 @@
+pub mod Handing
+pub mod Same
+pub mod Sound

@@ -1,0 +1,5 @@
+pub mod Answers
+pub mod FileNames
+pub mod HeadRules
+pub mod Kernels
+pub mod Kinds

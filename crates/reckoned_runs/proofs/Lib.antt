@@ -1,0 +1,4 @@
+pub mod Lefts
+pub mod Asks
+pub mod Worlds
+pub mod Example

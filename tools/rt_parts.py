@@ -5,9 +5,10 @@ import os
 import shutil
 import sys
 
-# What is used of `rt`: by build.py and compile.py, and by what tries wrong bodies and notes times besides.
+# What is used of `rt`: by build.py and compile.py; by what notes times; by what tries wrong bodies.
 PARTS = ("rtlib", "KIT", "Crate", "handles_of", "need", "processors", "in_lanes")
-PARTS_OF_TRIALS = ("rtlib", "main", "must_fail", "must_fail_all")
+PARTS_OF_TRIALS = ("rtlib", "main")
+PARTS_OF_EDITS = ("rtlib", "must_fail", "seeded", "linked", "REFUSED", "AT_LIMIT")
 
 
 def parts_of_rt(used=PARTS):

@@ -57,15 +57,17 @@ const MEANINGS: &[(u8, &str)] = &[
     ),
     (
         13,
-        "A line of the preprocessor stands there: write out what it stands for (gcc -E -P, or clang -E -P), or leave it out.",
+        "The preprocessor cannot read that line, or what a macro makes of it: a conditional that is not balanced, a macro with \
+         another number of arguments, or an #include. clang -E -P -x cl -cl-std=CL1.2 writes out what it stands for.",
     ),
     (
         15,
-        "Something of OpenCL C stands there that is left out: docs/LANGUAGE.md has what is read. Write it out by what is.",
+        "Something of OpenCL C stands there that is left out: docs/OPENCL.md has what is read. Write it out by what is.",
     ),
     (
         19,
-        "What was written out of the kernel is no sound core. That is a fault of kverify, and nothing is said of the kernel:          please report it with the kernel.",
+        "What was written out of the kernel is no sound core. That is a fault of kverify, and nothing is said of the kernel: \
+         please report it with the kernel.",
     ),
     (
         20,
@@ -132,7 +134,9 @@ const MEANINGS: &[(u8, &str)] = &[
     ),
     (
         35,
-        "The file has no kernel with a body, or several of them: leave one kernel in the file. Or its work-group has no size: write          __attribute__((reqd_work_group_size(X, Y, Z))) in front of it.",
+        "The file leaves open what the conditions do not say either. It has several kernels: say which by a line kernel NAME. Its \
+         work-group has no size: say it by a line local_size X Y Z. A __local pointer has no length: say it by a line local NAME \
+         COUNT. These lines stand first, behind conditions 3 (docs/FORMATS.md). Or a line there says what the file contradicts.",
     ),
     (
         40,

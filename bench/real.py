@@ -3,14 +3,15 @@
 
     real.py [--folder FOLDER] [--program PROGRAM] [--preprocess] [--prove] [--out FILE] [--list FILE] [PACKAGE ..]
 
-The kernels are collected once, into FOLDER (/tmp/real): packages are taken by `apt-get download` and unpacked there; texts are files, strings
-in libraries, and programs that the packages' own code builds while it runs against a library of OpenCL that runs nothing (real/opencl.c).
-Macros that a host defines are in real/options.txt; `#include` lines are written out. A kernel is built by clang before it counts.
+The kernels are collected once, into FOLDER (/tmp/real): packages are taken by `apt-get download` and unpacked there; texts are files,
+strings in libraries, and programs that the packages' own code builds while it runs against a library of OpenCL that runs nothing
+(real/opencl.c). Macros that a host defines are in real/options.txt; `#include` lines are written out. A kernel counts where clang builds
+it. Of piglit one kernel a file counts; elsewhere kernels with the same text count once.
 
-Each kernel is given to PROGRAM with conditions that are made of its parameters. It is read where it is not refused, or by the conditions'
-last line alone, which is wrong on purpose. With --preprocess clang expands the macros before, without it the conditions have `define` lines.
-With --prove each kernel that is read is also proved, for ten seconds at most, under conditions that relate nothing to anything. The table
-goes to FILE too, and to the list each kernel with its answer.
+Each kernel is given to PROGRAM with conditions that are made of its parameters. Their last line is wrong on purpose: a kernel that is
+refused by it alone is read. With --preprocess clang expands the macros before, without it the conditions have `define` lines. With --prove
+each kernel that is read is also proved, in ten processor seconds at most, under conditions that relate nothing to anything. The tables go to the
+--out file too, each kernel with its answer to the --list file, as JSON.
 """
 import argparse
 import collections
@@ -19,10 +20,13 @@ import hashlib
 import json
 import os
 import re
+import resource
 import shlex
 import shutil
+import signal
 import subprocess
 import sys
+import tempfile
 import time
 
 HERE = os.path.dirname(os.path.abspath(__file__))
@@ -51,6 +55,7 @@ EXPANDS = ["-E", "-P", "-cl-no-stdinc", "-D__OPENCL_VERSION__=120", "-D__ENDIAN_
 # A device of OpenCL 1.2 with what each has, and no more; or with all that there is.
 LEAST = ["-Xclang", "-cl-ext=-all,+cl_khr_byte_addressable_store,+cl_khr_global_int32_base_atomics,+cl_khr_local_int32_base_atomics"
          ",+cl_khr_global_int32_extended_atomics,+cl_khr_local_int32_extended_atomics"]
+LONG = "over ten seconds"
 KERNEL = r"\b(?:__)?kernel\b"
 
 
@@ -341,8 +346,7 @@ def kernels_of(words, expanded, path):
                 waiting += called[at]
         parameters = [(it.get("name", ""), type_of(it)) for it in function["inner"] if it["kind"] == "ParmVarDecl"]
         ids = {it for at in reached for it in dimensions(functions[at])}
-        size = re.search(r"reqd_work_group_size\s*\(\s*(\d+)\s*,\s*(\d+)\s*,\s*(\d+)\s*\)[\s)]*(?:__attribute__[^;{]*)?(?:void\s+)?"
-                         + re.escape(name) + r"\s*\(", expanded)
+        size = re.search(r"reqd_work_group_size\s*\(\s*(\d+)\s*,\s*(\d+)\s*,\s*(\d+)\s*\)[^;{}]*?\b" + re.escape(name) + r"\s*\(", expanded)
         kernels.append({"name": name, "parameters": parameters, "special": sorted(set().union(*(special[it] for it in reached))),
                         "size": [int(it) for it in size.groups()] if size else None, "dimensions": max(ids, default=0) + 1})
     return kernels
@@ -379,7 +383,7 @@ def conditions(kernel, defines, budget):
     sizes = {1: [64, 1, 1], 2: [8, 8, 1], 3: [4, 4, 4]}
     size = kernel["size"] or sizes[kernel["dimensions"]]
     head = ["conditions 3", "kernel " + kernel["name"]]
-    head += ["define " + it.replace("=", " ", 1).rstrip() for it in defines]
+    head += ["define " + it.replace("=", " ", 1) for it in defines]
     head += [] if kernel["size"] else ["local_size %d %d %d" % tuple(size)]
     groups = "groups " + " ".join("1..16" if kernel["dimensions"] > at else "1..1" for at in range(3))
     locals_, arguments, lengths = [], [], []
@@ -390,7 +394,7 @@ def conditions(kernel, defines, budget):
             else:
                 lengths.append(f"length {name} >= 4000000000")
         else:
-            arguments.append(f"arg {name} {RANGES.get(re.sub('const |volatile ', '', of), '0..4294967295')}")
+            arguments.append(f"arg {name} {RANGES.get(re.sub('const |volatile |__private ', '', of), '0..4294967295')}")
     return "\n".join([*head, *locals_, groups, *arguments, *lengths, f"budget {budget}"]) + "\n"
 
 
@@ -426,13 +430,16 @@ def collect(folder, sources):
 
 
 def answer(program, command, text, told, folder, seconds):
-    """The first line that the program says of a kernel under conditions, or None where it takes too long."""
+    """The first line that the program says of a kernel under conditions, or None where it takes more processor seconds."""
     paths = [os.path.join(folder, "kernel.cl"), os.path.join(folder, "kernel.conditions")]
     write(paths[0], text)
     write(paths[1], told)
     try:
-        said = run([program, command, *paths, "--wide", "--opencl", "--devices", "any"], timeout=seconds)
+        said = run([program, command, *paths, "--wide", "--opencl", "--devices", "any"], timeout=3 * seconds,
+                   preexec_fn=lambda: resource.setrlimit(resource.RLIMIT_CPU, (seconds, seconds)))
     except subprocess.TimeoutExpired:
+        return None
+    if said.returncode in (-signal.SIGXCPU, -signal.SIGKILL):
         return None
     return (said.stdout.splitlines() or [f"status {said.returncode} {said.stderr.strip()}"])[0]
 
@@ -444,27 +451,36 @@ def measure(words, source):
     for row in json.loads(read(os.path.join(to, "index.json"))):
         if row["faults"] is not None:
             continue
-        path = os.path.join(to, row["name"] + (".expanded.cl" if words.preprocess else ".cl"))
-        text, declared = read(path), None
+        text, declared = read(os.path.join(to, row["name"] + (".expanded.cl" if words.preprocess else ".cl"))), None
         defines = [] if words.preprocess else row["defines"]
+        # (a `define` line has a name, and tokens behind it; the others stand in front of the text)
+        text = "".join(f"#define {it.replace('=', ' ', 1)}\n" for it in defines if not is_line(it)) + text
+        defines = [it for it in defines if is_line(it)]
         for kernel in row["kernels"]:
             if kernel["special"]:
                 continue
             told = conditions(kernel, defines, 0)
-            said = answer(words.program, "explain", text, told, words.folder, 60) or "takes 60 seconds"
+            said = answer(words.program, "explain", text, told, words.scratch, 60) or "takes over 60 seconds"
             number = int(said.split()[1]) if re.match(r"refused \d+", said) else 0
             # (the conditions are read behind the kernel, and their last line is wrong)
             is_read = 30 <= number <= 34 and int(said.split()[2]) > head_lines(told)
-            why, place = "", ""
+            why, place, wanted = "", "", []
             if not is_read:
-                declared = declared or tree_of([*CLANG, *row["more"], *["-D" + it for it in defines]], path)
+                given = os.path.join(words.scratch, "kernel.cl")
+                declared = declared or tree_of([*CLANG, *row["more"], *["-D" + it for it in defines]], given)
                 why, place = reason(text, said, declared)
+                wanted = needs(kernel["name"], declared)
             proved = None
             if is_read and words.prove:
-                proved = answer(words.program, "prove", text, conditions(kernel, defines, 10 ** 12), words.folder, 10) or "takes 10 seconds"
+                proved = answer(words.program, "prove", text, conditions(kernel, defines, 10 ** 12), words.scratch, 10) or LONG
             rows.append({"text": row["name"], "kernel": kernel["name"], "said": said, "read": is_read, "why": why, "place": place,
-                         "proved": proved})
+                         "needs": wanted, "proved": proved})
     return rows
+
+
+def is_line(define):
+    """Whether conditions can say a definition: its name is one, and it stands for something."""
+    return re.fullmatch(r"\w+(=.+)?", define, re.S) is not None
 
 
 def head_lines(told):
@@ -537,8 +553,9 @@ def construct(number, token, offset, declared, behind):
     inner = chain[-1] if chain else {"kind": "", "type": {}}
     of = type_of(inner)
     if number == "10":
-        return "a declaration that is not known (`T (*p)[6]`, a type that the file names)" if re.match(r"\(|\w", token) and inner["kind"] in (
-            "ParmVarDecl", "VarDecl", "DeclStmt", "FunctionDecl") else f"`{token}`, where the grammar has something else"
+        if inner["kind"] in ("ParmVarDecl", "VarDecl", "DeclStmt", "FunctionDecl") and re.match(r"\(|\w", token):
+            return "a declaration that is not known (`T (*p)[6]`, a type that the file names)"
+        return f"`{token}`, where the grammar has something else"
     if number == "35":
         return "several work-group sizes, or a kernel's name twice"
     if number not in ("15", "22"):
@@ -569,6 +586,11 @@ def construct(number, token, offset, declared, behind):
         return "an assignment or a step whose value is used (`a[i++]`, `x = y = 0`)"
     if token == "{":
         return "lists in braces"
+    if token == ",":
+        return "a comma whose value is used"
+    if any(place_of(it["range"]["begin"]) == offset and around["kind"] in ("CompoundStmt", "ForStmt", "IfStmt", "WhileStmt")
+           for around, it in zip(chain, chain[1:]) if it["kind"].endswith("Expr")) and token not in names:
+        return "an expression without effect as a statement (`for (i; ..)`, `f(x);`)"
     if re.fullmatch(r"[\d.]+([eE][-+]?\d+)?[hH]", token):
         return "`half`"
     if re.fullmatch(r"(0[xX][0-9a-fA-F]+|\d+)[uU]?[lL]+[uU]?", token) or token in ("long", "ulong"):
@@ -601,6 +623,62 @@ def construct(number, token, offset, declared, behind):
     return f"`{token}`" + (" (a wrong type)" if number == "22" else "")
 
 
+# What is told of a kernel as a whole: which of these its text and that of the functions that it calls has.
+def needs(name, declared):
+    """The constructs of a kernel, and of what it calls, that may keep it out."""
+    functions, found, waiting, reached = functions_of(declared), set(), [name], set()
+    globals_ = {it["id"] for it in declared if it["kind"] == "VarDecl"}
+    while waiting:
+        at = waiting.pop()
+        if at in functions and at not in reached:
+            reached.add(at)
+            for node, outer in with_outer(functions[at]):
+                to = node.get("referencedDecl", {})
+                if to.get("kind") == "FunctionDecl" and to["name"] in functions:
+                    found.add("calls of the file's own functions")
+                    waiting.append(to["name"])
+                found |= set(needs_of(node, outer, declared, at == name, globals_))
+    return sorted(found)
+
+
+def with_outer(node, outer=()):
+    yield node, outer
+    for inner in node.get("inner") or []:
+        if inner:
+            yield from with_outer(inner, (*outer[-3:], node))
+
+
+def needs_of(node, outer, declared, is_kernel, globals_):
+    kind, of = node["kind"], resolved(node.get("type", {}).get("qualType", ""), declared)
+    if re.search(VECTOR, of):
+        yield "vectors"
+    if kind in ("VarDecl", "ParmVarDecl", "CStyleCastExpr") or kind == "IntegerLiteral" and "long" in of:
+        yield from (it for it in [told_type(of)] if it in ("`long` and `ulong`", "`double`", "`half`", "structures and unions"))
+    if kind == "VarDecl" and not re.search(r"__local\b|__constant\b", of) and "[" in of:
+        yield "private arrays"
+    if kind == "VarDecl" and re.search(r"__local\b", of) and not re.search(r"[*\[]", of):
+        yield "`__local` variables that are no arrays"
+    if kind == "VarDecl" and "*" in of or kind == "UnaryOperator" and node.get("opcode") in ("*", "&"):
+        yield "pointers"
+    if kind in ("BinaryOperator", "CompoundAssignOperator", "UnaryOperator") and re.search(r"\*\s*(__private)?$", of):
+        yield "pointers"
+    if kind == "CStyleCastExpr" and "*" in of and "*" in type_of(node["inner"][-1]):
+        yield "casts of pointers"
+    if kind == "ParmVarDecl" and is_kernel and "*" not in of and node["type"]["qualType"] != of and not re.search(VECTOR, of):
+        if any(it["kind"] == "TypedefDecl" and re.search(rf"\b{re.escape(it['name'])}\b", node["type"]["qualType"]) for it in declared):
+            yield "parameters whose type the file names"
+    if kind in ("SwitchStmt", "GotoStmt"):
+        yield "`switch`" if kind == "SwitchStmt" else "`goto`"
+    if kind == "DeclRefExpr" and node.get("referencedDecl", {}).get("id") in globals_:
+        yield "constants and tables of the file"
+    is_change = kind == "CompoundAssignOperator" or kind == "BinaryOperator" and node.get("opcode") == "="
+    if is_change or kind == "UnaryOperator" and node.get("opcode") in ("++", "--"):
+        if outer and outer[-1]["kind"] in ("ImplicitCastExpr", "ArraySubscriptExpr", "BinaryOperator", "CallExpr", "VarDecl", "ParenExpr",
+                                           "CompoundAssignOperator", "CStyleCastExpr", "ReturnStmt", "UnaryOperator"):
+            if outer[-1].get("opcode") != ",":
+                yield "assignments and steps whose value is used"
+
+
 def table(rows):
     """Rows of cells as Markdown; the first one is the head."""
     return "\n".join("| " + " | ".join(map(str, it)) + " |" for it in [rows[0], ["---"] * len(rows[0]), *rows[1:]]) + "\n"
@@ -618,18 +696,32 @@ def tables(words, measured):
         whole += counts
         lines.append((source, counts))
     for at, (source, counts) in enumerate([*lines[1:], ("all", whole)], 1):
-        cells = [source, *(counts[it] for it in ("kernels", "left", "plain", "read")), round(100 * counts["read"] / max(1, counts["plain"]))]
+        cells = [source, *(counts[it] for it in ("kernels", "left", "plain", "read"))]
+        cells.append(round(100 * counts["read"] / max(1, counts["plain"])))
         lines[at:at + 1] = [cells + ([counts["proved"]] if words.prove else [])]
     kept = collections.Counter(it["why"] for rows in measured.values() for it in rows if not it["read"])
     outs = [["Refusal and construct", "all", *measured]]
     for why, count in kept.most_common():
         outs.append([why, count, *(sum(it["why"] == why for it in rows) or "·" for rows in measured.values())])
-    told = table(lines) + "\n" + table(outs)
+    told = table(lines) + "\n" + table(outs) + "\n" + table(needs_table(measured))
     if words.prove:
-        answers = collections.Counter(" ".join(it["proved"].split()[:2]) if it["proved"] != "takes 10 seconds" else it["proved"]
+        answers = collections.Counter(it["proved"] if it["proved"] == LONG else " ".join(it["proved"].split()[:2])
                                       for rows in measured.values() for it in rows if it["read"])
         told += "\n" + table([["Answer of `prove`", "Kernels"], *answers.most_common()])
     return told
+
+
+def needs_table(measured):
+    """Of the kernels that are not read: how many have a construct, and how many no other; and which constructs let most in, one by one."""
+    out = [set(it["needs"]) for rows in measured.values() for it in rows if not it["read"]]
+    lines = [["Construct", "In kernels that are not read", "Alone in", "Read with it and all above"]]
+    left, known = set().union(*out), set()
+    while left:
+        best = max(sorted(left), key=lambda it: (sum(one <= known | {it} for one in out), sum(it in one for one in out)))
+        left.remove(best)
+        known.add(best)
+        lines.append([best, sum(best in it for it in out), sum(it == {best} for it in out), sum(it <= known for it in out)])
+    return lines
 
 
 def main():
@@ -645,10 +737,13 @@ def main():
     sources = words.packages or list(SOURCES)
     collect(words.folder, sources)
     measured = {}
-    for it in sources:
-        start = time.time()
-        measured[it] = measure(words, it)
-        print(f"{it}: {len(measured[it])} kernels in {time.time() - start:.0f} s", file=sys.stderr)
+    with tempfile.TemporaryDirectory() as words.scratch:
+        for it in sources:
+            start = time.time()
+            measured[it] = measure(words, it)
+            rows = measured[it]
+            print(f"{it}: {len(rows)} kernels, {sum(row['read'] for row in rows)} read, {sum(row['proved'] == 'accepted' for row in rows)} "
+                  f"accepted, in {time.time() - start:.0f} s", file=sys.stderr)
     told = tables(words, measured)
     if words.list:
         write(words.list, json.dumps(measured, indent=1))

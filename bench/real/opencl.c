@@ -256,7 +256,9 @@ cl_int clEnqueueNDRangeKernel(cl_command_queue queue, cl_kernel kernel, cl_uint 
         const size_t *local, cl_uint count, const cl_event *behind, cl_event *event) {
     return done(event);
 }
-cl_int clEnqueueTask(cl_command_queue queue, cl_kernel kernel, cl_uint count, const cl_event *behind, cl_event *event) { return done(event); }
+cl_int clEnqueueTask(cl_command_queue queue, cl_kernel kernel, cl_uint count, const cl_event *behind, cl_event *event) {
+    return done(event);
+}
 cl_int clEnqueueReadBuffer(cl_command_queue queue, cl_mem memory, cl_bool waits, size_t offset, size_t size, void *to, cl_uint count,
         const cl_event *behind, cl_event *event) {
     memcpy(to, (char *)((object *)memory)->memory + offset, size);

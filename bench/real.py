@@ -10,8 +10,8 @@ it. Of piglit one kernel a file counts; elsewhere kernels with the same text cou
 
 Each kernel is given to PROGRAM with conditions that are made of its parameters. Their last line is wrong on purpose: a kernel that is
 refused by it alone is read. With --preprocess clang expands the macros before, without it the conditions have `define` lines. With --prove
-each kernel that is read is also proved, in ten processor seconds at most, under conditions that relate nothing to anything. The tables go to the
---out file too, each kernel with its answer to the --list file, as JSON.
+each kernel that is read is also proved, in ten processor seconds at most, under conditions that relate nothing to anything. The tables go
+to the --out file too, each kernel with its answer to the --list file, as JSON.
 """
 import argparse
 import collections
@@ -83,6 +83,7 @@ def unpack(folder, packages):
     os.makedirs(downloads, exist_ok=True)
     for package in packages:
         to = os.path.join(folder, "packages", package)
+        os.makedirs(os.path.dirname(to), exist_ok=True)
         if not os.path.isdir(to):
             if not glob.glob(os.path.join(downloads, package + "_*.deb")):
                 print(f"download of {package}", file=sys.stderr)
@@ -144,7 +145,7 @@ class Collection:
     def texts(self, source):
         """What a source has: names, options of the host, and texts."""
         return [(f"{number:03}_{name}", options, text) for number, (name, options, text) in enumerate(getattr(self, source)())
-                if re.search(KERNEL, text) or name != "files"]
+                if re.search(KERNEL, text)]
 
     def viennacl(self):
         caller = self.caller("viennacl", "-I", self.of("libviennacl-dev", "include"))
@@ -469,7 +470,9 @@ def measure(words, source):
                 given = os.path.join(words.scratch, "kernel.cl")
                 declared = declared or tree_of([*CLANG, *row["more"], *["-D" + it for it in defines]], given)
                 why, place = reason(text, said, declared)
-                wanted = needs(kernel["name"], declared)
+                # (what stands in another function of the file may keep it out, too)
+                wanted = needs(kernel["name"], declared) or [why.split(": ", 1)[-1]]
+                wanted += [it for it in ("`long` and `ulong`", "`half`") if it in why and it not in wanted]
             proved = None
             if is_read and words.prove:
                 proved = answer(words.program, "prove", text, conditions(kernel, defines, 10 ** 12), words.scratch, 10) or LONG
@@ -664,7 +667,7 @@ def needs_of(node, outer, declared, is_kernel, globals_):
         yield "pointers"
     if kind == "CStyleCastExpr" and "*" in of and "*" in type_of(node["inner"][-1]):
         yield "casts of pointers"
-    if kind == "ParmVarDecl" and is_kernel and "*" not in of and node["type"]["qualType"] != of and not re.search(VECTOR, of):
+    if kind == "ParmVarDecl" and is_kernel and node["type"]["qualType"] != of and not re.search(VECTOR, of):
         if any(it["kind"] == "TypedefDecl" and re.search(rf"\b{re.escape(it['name'])}\b", node["type"]["qualType"]) for it in declared):
             yield "parameters whose type the file names"
     if kind in ("SwitchStmt", "GotoStmt"):
@@ -681,7 +684,8 @@ def needs_of(node, outer, declared, is_kernel, globals_):
 
 def table(rows):
     """Rows of cells as Markdown; the first one is the head."""
-    return "\n".join("| " + " | ".join(map(str, it)) + " |" for it in [rows[0], ["---"] * len(rows[0]), *rows[1:]]) + "\n"
+    lines = ["| " + " | ".join(map(str, it)) + " |" for it in rows]
+    return "\n".join([lines[0], "|" + "---|" * len(rows[0]), *lines[1:]]) + "\n"
 
 
 def tables(words, measured):

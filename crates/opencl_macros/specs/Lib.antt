@@ -1,0 +1,15 @@
+pub mod SignNumbers
+pub mod Macros
+pub mod Expansion
+pub mod Machine
+pub mod Operators
+pub mod Conditions
+pub mod Questions
+pub mod Directives
+pub mod Reading
+pub mod Seen
+pub mod SeenMachine
+pub mod SeenConditions
+pub mod SeenQuestions
+pub mod SeenDirectives
+pub mod SeenReading

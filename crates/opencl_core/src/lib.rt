@@ -6,7 +6,7 @@
 #![tactic(auto)]
 
 pub mod assigning;
-mod constants;
+pub mod constants;
 pub mod declaring;
 pub mod flags;
 pub mod heads;

@@ -22,6 +22,7 @@ use Rattle.sound_cores.proofs.Kept.{sound-proper, sound-told, sound-rises, sound
 use Rattle.opencl_tokens.specs.Joining.{joined_of}
 use Rattle.opencl_tokens.specs.Scanning.{tokens_of}
 use Rattle.opencl_tokens.specs.Reading.{lexemes_of}
+use Rattle.opencl_macros.specs.Reading.{preprocessed}
 use Rattle.opencl_files.specs.FileTree.{KernelText}
 use Rattle.opencl_files.specs.Files.{chosen_kernel}
 use Rattle.launch_text.specs.HeadReading.{Head}
@@ -29,9 +30,10 @@ use Rattle.opencl_core.specs.Heads.{LocalCount}
 use Rattle.opencl_core.specs.Kernels.{Written, kernel_of}
 use Rattle.opencl_values.specs.Scope.{Binding}
 use Rattle.opencl_reading.specs.FileNames.{outside_of}
+use Rattle.opencl_reading.specs.FileTypes.{meant_in}
 use Rattle.opencl_reading.specs.HeadRules.{are_locals, as_count}
 use Rattle.opencl_reading.specs.Kinds.{are_same}
-use Rattle.opencl_reading.specs.Kernels.{Fault, OfText, OfFile, OfCore, Unsound, on, when, has_few, has_parameters, is_kept, tested, all_set, with_few, checked, of_size, agreed, counted, sized, with_sizes, same, with_head, of_lexemes, of_tokens, of_lines, read}
+use Rattle.opencl_reading.specs.Kernels.{Fault, OfText, OfFile, OfCore, Unsound, on, when, has_few, has_parameters, is_kept, tested, all_set, with_few, checked, of_size, agreed, counted, sized, with_sizes, same, with_head, of_lexemes, placed, of_expanded, with_given, constants, with_lines, of_tokens, of_lines, read}
 
 -- a part that answers was followed by what answers
 on-back : {A B F : Type 0} (into : F → Fault) (r : Result A (F × Site)) (next : A → Result B (Fault × Site)) (b : B) → on into r next ≡ Ok b → (a : A) × (next a ≡ Ok b)
@@ -55,7 +57,7 @@ few-kept at w v false h = absurd cc
 
 size-kept : (ids : Kind) (outside : List Binding) (t : KernelText) (counts : List LocalCount) (sizes : Three ℕ) (v : Written) → of_size ids outside t counts sizes ≡ Ok v → is_kept v ≡ true
 size-kept ids outside t counts sizes v h =
-    let w = on-back OfCore (kernel_of ids outside sizes t.header counts t.body) (checked t.header.site) v h in
+    let w = on-back OfCore (kernel_of ids (meant_in ids t outside) sizes t.header counts t.body) (checked t.header.site) v h in
     few-kept t.header.site w.0 v (has_few w.0.names) w.1
 
 counted-kept : (ids : Kind) (outside : List Binding) (t : KernelText) (counts : List LocalCount) (sizes : Three ℕ) (b : Bool) (v : Written) → counted ids outside t counts sizes b ≡ Ok v → is_kept v ≡ true
@@ -77,7 +79,10 @@ read-kept d head bytes v h =
     let ids = size_kind d in
     let lines = on-back OfText (joined_of bytes) (of_lines ids head) v h in
     let tokens = on-back OfText (tokens_of lines.0) (of_tokens ids head) v lines.1 in
-    let ts = on-back OfText (lexemes_of tokens.0) (of_lexemes ids head) v tokens.1 in
+    let given = on-back OfText (joined_of constants) (with_lines ids head tokens.0) v tokens.1 in
+    let gs = on-back OfText (tokens_of given.0) (with_given ids head tokens.0) v given.1 in
+    let out = on-back OfText (placed (preprocessed gs.0 tokens.0)) (of_expanded ids head) v gs.1 in
+    let ts = on-back OfText (lexemes_of out.0) (of_lexemes ids head) v out.1 in
     let t = on-back OfFile (chosen_kernel head.kernel ts.0) (with_head ids (outside_of ts.0) head) v ts.1 in
     head-kept ids (outside_of ts.0) head t.0 v t.1
 

@@ -1,6 +1,6 @@
 -- What the bytes of a text of OpenCL C say where it is read for some devices, with the head of conditions: a core with its map of names, or
 -- the first fault with its place. What a core has to keep that is run and proved is tested of it.
-use Rattle.std.specs.Prelude.{ℕ, List, length, map, Bool, true, false, cond, ◌&&◌, nat_le, Option, None, Some, Result, Ok, Err}
+use Rattle.std.specs.Prelude.{ℕ, List, ◌++◌, codes, length, map, Bool, true, false, cond, ◌&&◌, nat_le, Option, None, Some, Result, Ok, Err}
 use Rattle.semantics.specs.Word.{Kind}
 use Rattle.semantics.specs.Launch as launch
 use Rattle.semantics.specs.Launch.{Three}
@@ -15,6 +15,7 @@ use Rattle.opencl_tokens.specs.Tokens.{Token}
 use Rattle.opencl_tokens.specs.Scanning.{tokens_of}
 use Rattle.opencl_tokens.specs.Lexemes.{Lexeme}
 use Rattle.opencl_tokens.specs.Reading.{lexemes_of}
+use Rattle.opencl_macros.specs.Reading.{preprocessed}
 use Rattle.opencl_files.specs.Faults as files
 use Rattle.opencl_files.specs.FileTree.{KernelText}
 use Rattle.opencl_files.specs.Files.{chosen_kernel}
@@ -27,6 +28,7 @@ use Rattle.sound_cores.specs.Sound.{is_sound}
 pub use Rattle.sound_cores.specs.Unset.{first_unset}
 use Rattle.opencl_values.specs.Scope.{Binding}
 use Rattle.opencl_reading.specs.FileNames.{outside_of}
+use Rattle.opencl_reading.specs.FileTypes.{meant_in}
 use Rattle.opencl_reading.specs.HeadRules.{are_same_sizes, are_locals, as_count}
 use Rattle.opencl_reading.specs.Kinds.{are_same}
 
@@ -78,7 +80,8 @@ abbrev pub checked : Site → Written → Read
 checked at w = with_few at w (has_few w.names)
 
 abbrev pub of_size : (ids : Kind) → (outside : List Binding) → KernelText → List LocalCount → Three ℕ → Read
-of_size ids outside t counts sizes = on OfCore (kernel_of ids outside sizes t.header counts t.body) (checked t.header.site)
+of_size ids outside t counts sizes =
+    on OfCore (kernel_of ids (meant_in ids t outside) sizes t.header counts t.body) (checked t.header.site)
 
 -- the kernel's attribute says how large its work-groups are, or the head does; what both say is the same
 abbrev pub agreed : Site → (own given : Option (Three ℕ)) → Result (Three ℕ) (Fault × Site)
@@ -112,8 +115,28 @@ with_head ids outside h t = on same (agreed t.header.site t.header.sizes h.sizes
 abbrev pub of_lexemes : (ids : Kind) → Head → List Lexeme → Read
 of_lexemes ids h ts = on OfFile (chosen_kernel h.kernel ts) (with_head ids (outside_of ts) h)
 
+-- a fault of directives and macros
+abbrev pub placed : {A : Type 0} → Result A Site → Result A (texts.TextFault × Site)
+placed (Ok a) = Ok a
+placed (Err site) = Err (texts.Preprocessor, site)
+
+abbrev pub of_expanded : (ids : Kind) → Head → List Token → Read
+of_expanded ids h ts = on OfText (lexemes_of ts) (of_lexemes ids h)
+
+abbrev pub with_given : (ids : Kind) → Head → (text given : List Token) → Read
+with_given ids h ts gs = on OfText (placed (preprocessed gs ts)) (of_expanded ids h)
+
+-- macros that stand for the same in each build of OpenCL C 1.2 (OpenCL 1.2, 6.10)
+unfoldable pub constants : List ℕ
+constants =
+    codes "#define __OPENCL_VERSION__ 120\n#define __OPENCL_C_VERSION__ 120\n#define __ENDIAN_LITTLE__ 1\n"
+    ++ codes "#define CL_VERSION_1_0 100\n#define CL_VERSION_1_1 110\n#define CL_VERSION_1_2 120\n"
+
+abbrev pub with_lines : (ids : Kind) → Head → List Token → Joined → Read
+with_lines ids h ts lines = on OfText (tokens_of lines) (with_given ids h ts)
+
 abbrev pub of_tokens : (ids : Kind) → Head → List Token → Read
-of_tokens ids h ts = on OfText (lexemes_of ts) (of_lexemes ids h)
+of_tokens ids h ts = on OfText (joined_of constants) (with_lines ids h ts)
 
 abbrev pub of_lines : (ids : Kind) → Head → Joined → Read
 of_lines ids h lines = on OfText (tokens_of lines) (of_tokens ids h)

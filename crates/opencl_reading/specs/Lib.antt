@@ -1,5 +1,6 @@
 pub mod Answers
 pub mod FileNames
+pub mod FileTypes
 pub mod HeadRules
 pub mod Kernels
 pub mod Kinds

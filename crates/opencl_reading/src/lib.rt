@@ -6,7 +6,7 @@
 //! was written out, so that those who stand above need not know where a core came from.
 #![tactic(auto)]
 
-ghost use Rattle.std.specs.Prelude.{◌≡◌, true, length, map, nat_le};
+ghost use Rattle.std.specs.Prelude.{◌≡◌, true, length, map, nat_le, IfOk};
 ghost use Rattle.core_code.specs.View.{kernel as core_seen, site as site_seen};
 ghost use Rattle.kernel_names.specs.View.{names_seen};
 ghost use Rattle.words.specs.View.{kind as kind_seen};
@@ -21,11 +21,13 @@ ghost use Rattle.opencl_reading.specs.Kernels.{read};
 ghost use Rattle.opencl_reading.specs.Answers.{Gives, outside, too_many as too_many_seen};
 
 pub mod error;
+mod file_types;
 mod heads;
 mod kinds;
 mod names;
 
 use crate::error::OpenClError;
+use crate::file_types::push_meant;
 use crate::heads::{agreed, are_locals, counts};
 use crate::kinds::tells_parameters;
 use crate::names::{names_in, unread};
@@ -36,11 +38,12 @@ use opencl_core::heads::LocalCount;
 use opencl_core::kernels::{Written, kernel_of};
 use opencl_files::files::chosen_kernel;
 use opencl_files::tree::KernelText;
-use opencl_tokens::{Joined, Lexeme, Token, join, lexemes, tokens};
+use opencl_macros::{MacroError, preprocessed};
+use opencl_tokens::{Joined, Lexeme, TextFault, Token, TokenError, join, lexemes, tokens};
 use opencl_values::error::{Fault, ValueError};
 use sound_cores::sound::is_sound;
 use sound_cores::unset::first_unset;
-use std::alloc::Global;
+use std::alloc::{AllocError, Global};
 use typed_kernels::Typed;
 use types::devices::Devices;
 use words::Kind;
@@ -113,7 +116,8 @@ fn of_size(
     ensures { Gives result (kernels.of_size (kind_seen ids) (outside file.now) (text_seen file.now.text) (map cores.local_count counts.now) (cores.three sizes)) }
 {
     let text = &file.text;
-    let outside = unread(alloc, &file.names)?;
+    let mut outside = unread(alloc, &file.names)?;
+    push_meant(alloc, ids, text, &mut outside)?;
     match kernel_of(alloc, ids, outside, sizes, &text.header, counts, &text.body) {
         Ok(of) => checked(alloc, text.header.site, of),
         Err(error) => Err(OpenClError::Core(error)),
@@ -197,16 +201,83 @@ fn of_lexemes(
     }
 }
 
-fn of_tokens(
+/// The kernel of tokens in which no directive and no macro is left.
+fn of_expanded(
     alloc: Global,
     ids: Kind,
     head: &Head<'_>,
     found: &[Token],
 ) -> Result<Typed, OpenClError>
-    ensures { Gives result (kernels.of_tokens (kind_seen ids) (head_seen head.now) (map token_seen found.now)) }
+    ensures { Gives result (kernels.of_expanded (kind_seen ids) (head_seen head.now) (map token_seen found.now)) }
 {
     match lexemes(alloc, found) {
         Ok(found) => of_lexemes(alloc, ids, head, &found),
+        Err(error) => Err(OpenClError::Text(error)),
+    }
+}
+
+/// The kernel of tokens behind definitions that are given.
+fn with_given<'a>(
+    alloc: Global,
+    ids: Kind,
+    head: &Head<'_>,
+    found: &'a [Token<'a>],
+    given: &'a [Token<'a>],
+) -> Result<Typed, OpenClError>
+    ensures { Gives result (kernels.with_given (kind_seen ids) (head_seen head.now) (map token_seen found.now) (map token_seen given.now)) }
+{
+    match preprocessed(alloc, given, found) {
+        Ok(out) => of_expanded(alloc, ids, head, &out),
+        Err(MacroError::At(site)) => Err(OpenClError::Text(TokenError::At {
+            fault: TextFault::Preprocessor,
+            site,
+        })),
+        Err(MacroError::Memory) => Err(OpenClError::Memory),
+    }
+}
+
+fn with_lines<'a>(
+    alloc: Global,
+    ids: Kind,
+    head: &Head<'_>,
+    found: &'a [Token<'a>],
+    lines: &'a Joined,
+) -> Result<Typed, OpenClError>
+    ensures { Gives result (kernels.with_lines (kind_seen ids) (head_seen head.now) (map token_seen found.now) (joined_seen lines.now)) }
+{
+    match tokens(alloc, lines) {
+        Ok(given) => with_given(alloc, ids, head, found, &given),
+        Err(error) => Err(OpenClError::Text(error)),
+    }
+}
+
+/// Macros that stand for the same in each build of OpenCL C 1.2.
+const VERSIONS: &[u8] =
+    b"#define __OPENCL_VERSION__ 120\n#define __OPENCL_C_VERSION__ 120\n#define __ENDIAN_LITTLE__ 1\n";
+
+const OLDER_VERSIONS: &[u8] =
+    b"#define CL_VERSION_1_0 100\n#define CL_VERSION_1_1 110\n#define CL_VERSION_1_2 120\n";
+
+#[tactic(auto, unfolding(crate::specs::Kernels::constants))]
+fn constants(alloc: Global) -> Result<Vec<u8>, AllocError>
+    ensures { IfOk result (λ v. v.items ≡ kernels.constants) }
+{
+    let mut text = Vec::from_slice(alloc, VERSIONS)?;
+    text.extend_from_slice(OLDER_VERSIONS)?;
+    Ok(text)
+}
+
+fn of_tokens<'a>(
+    alloc: Global,
+    ids: Kind,
+    head: &Head<'_>,
+    found: &'a [Token<'a>],
+) -> Result<Typed, OpenClError>
+    ensures { Gives result (kernels.of_tokens (kind_seen ids) (head_seen head.now) (map token_seen found.now)) }
+{
+    let text = constants(alloc)?;
+    match join(alloc, &text) {
+        Ok(lines) => with_lines(alloc, ids, head, found, &lines),
         Err(error) => Err(OpenClError::Text(error)),
     }
 }

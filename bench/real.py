@@ -1,7 +1,7 @@
 #!/usr/bin/env python3
 """Says how many kernels of Debian's packages kverify reads, and what keeps the others out.
 
-    real.py [--folder FOLDER] [--program PROGRAM] [--preprocess] [--prove] [--out FILE] [--list FILE] [PACKAGE ..]
+    real.py [--folder FOLDER] [--program PROGRAM] [--preprocess | --in-front] [--prove] [--out FILE] [--list FILE] [PACKAGE ..]
 
 The kernels are collected once, into FOLDER (/tmp/real): packages are taken by `apt-get download` and unpacked there; texts are files,
 strings in libraries, and programs that the packages' own code builds while it runs against a library of OpenCL that runs nothing
@@ -9,9 +9,10 @@ strings in libraries, and programs that the packages' own code builds while it r
 it. Of piglit one kernel a file counts; elsewhere kernels with the same text count once.
 
 Each kernel is given to PROGRAM with conditions that are made of its parameters. Their last line is wrong on purpose: a kernel that is
-refused by it alone is read. With --preprocess clang expands the macros before, without it the conditions have `define` lines. With --prove
-each kernel that is read is also proved, in ten processor seconds at most, under conditions that relate nothing to anything. The tables go
-to the --out file too, each kernel with its answer to the --list file, as JSON.
+refused by it alone is read. With --preprocess clang expands the macros before; with --in-front what a host defines stands in front of the
+text; without either the conditions have `define` lines, which no program reads yet. With --prove each kernel that is read is also proved,
+in ten processor seconds at most, under conditions that relate nothing to anything. The tables go to the --out file too, each kernel with
+its answer to the --list file, as JSON.
 """
 import argparse
 import collections
@@ -454,9 +455,10 @@ def measure(words, source):
             continue
         text, declared = read(os.path.join(to, row["name"] + (".expanded.cl" if words.preprocess else ".cl"))), None
         defines = [] if words.preprocess else row["defines"]
-        # (a `define` line has a name, and tokens behind it; the others stand in front of the text)
-        text = "".join(f"#define {it.replace('=', ' ', 1)}\n" for it in defines if not is_line(it)) + text
-        defines = [it for it in defines if is_line(it)]
+        # (a `define` line has a name, and tokens behind it; the others stand in front of the text, or all)
+        in_front = [it for it in defines if words.in_front or not is_line(it)]
+        text = "".join(f"#define {(it if '=' in it else it + '=1').replace('=', ' ', 1)}\n" for it in in_front) + text
+        defines = [it for it in defines if it not in in_front]
         for kernel in row["kernels"]:
             if kernel["special"]:
                 continue
@@ -733,6 +735,7 @@ def main():
     parser.add_argument("--folder", default="/tmp/real")
     parser.add_argument("--program", default=os.path.join(ROOT, "crates", "kverify", "out", "unproved", "kverify"))
     parser.add_argument("--preprocess", action="store_true")
+    parser.add_argument("--in-front", action="store_true")
     parser.add_argument("--prove", action="store_true")
     parser.add_argument("--out")
     parser.add_argument("--list")

@@ -1,4 +1,4 @@
--- What names that a file declares in front of its kernel mean there: names of types (C99 6.7.7), and the constants of enumerations (6.7.2.2).
+-- What names that a file declares in front of its kernel mean there: names of types (C99 6.7.7), and constants of enumerations (6.7.2.2).
 -- What cannot be meant (a pointer's type, a constant that is no number of the text) stays without a meaning.
 use Rattle.std.specs.Prelude.{ℕ, ◌+◌, List, [], ◌∷◌, ◌++◌, Bool, true, false, cond, not, ◌&&◌, Option, None, Some, Result, Ok, Err}
 use Rattle.semantics.specs.Word.{Kind}

@@ -12,7 +12,7 @@ use Rattle.opencl_terms.specs.Types.{Scalar, Int, ValueType, kind_of, stored_kin
 use Rattle.opencl_terms.specs.Conversions.{converted}
 use Rattle.opencl_values.specs.Faults.{Checked, WrongType, TooMany, LocalLength, LeftOut, Pointer, refused, then, when, found}
 use Rattle.opencl_values.specs.Scope.{ArrayOf}
-use Rattle.opencl_values.specs.Names.{type_of_base}
+use Rattle.opencl_values.specs.Names.{type_of_base, scalar_in}
 use Rattle.opencl_core.specs.Rooms.{Room, set, next_slot, declared, slot_declared}
 use Rattle.opencl_core.specs.Declaring.{has_elements, element_of_type, has_place, local_declared, most_elements}
 
@@ -61,9 +61,13 @@ narrowed at slot s r =
 abbrev pub argument_kept : Named → Scalar → Room → Room
 argument_kept p s r = with_parameter (surface.Value (kind_of r.ids s) p.site p.name) r
 
+-- a vector as a value is left out
+abbrev pub argument_of_type : Site → ValueType → Checked Scalar
+argument_of_type at t = then (scalar_in at t) (λ s. element_of_type at t)
+
 abbrev pub declare_argument : Named → (is_constant : Bool) → Room → Checked Room
 declare_argument p is_constant r =
-    then (element_of_type p.site p.type) (λ s. then (next_slot p.site r) (λ slot. then (slot_declared p.site p.name p.type is_constant r) (λ d.
+    then (argument_of_type p.site p.type) (λ s. then (next_slot p.site r) (λ slot. then (slot_declared p.site p.name p.type is_constant r) (λ d.
     narrowed p.site slot s (argument_kept p s d))))
 
 abbrev pub declare_pointer : List LocalCount → Named → Qualifiers → Option Space → Room → Checked Room

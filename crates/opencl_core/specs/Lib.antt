@@ -1,4 +1,6 @@
 pub mod Assigning
+pub mod Components
+pub mod ComponentsView
 pub mod Constants
 pub mod Declaring
 pub mod Flags

@@ -5,6 +5,7 @@ ghost use Rattle.core_code.specs.View.{site as site_seen};
 ghost use Rattle.syntax.specs.View.{parameter as parameter_seen};
 ghost use Rattle.opencl_tree.specs.View.{qualifiers as qualifiers_seen, space_of};
 ghost use Rattle.opencl_files.specs.View.{parameter as parameter_of};
+ghost use Rattle.opencl_terms.specs.Answers.{value_type};
 ghost use Rattle.opencl_terms.specs.View.{scalar as scalar_seen};
 ghost use Rattle.opencl_values.specs.View.{Gives};
 ghost use Rattle.opencl_core.specs.Heads as rules;
@@ -18,7 +19,7 @@ use opencl_terms::conversions::converted;
 use opencl_terms::scalars::{Scalar, ValueType};
 use opencl_tree::types::{Qualifiers, Space};
 use opencl_values::error::{Construct, Fault, ValueError, refused};
-use opencl_values::names::type_of_base;
+use opencl_values::names::{scalar_in, type_of_base};
 use opencl_values::scope::Meaning;
 use std::alloc::{AllocError, Global};
 use syntax::tree::Parameter as Told;
@@ -170,6 +171,13 @@ fn keep_argument(
     })
 }
 
+fn argument_of_type(at: Site, of: ValueType) -> Result<Scalar, ValueError>
+    ensures { Gives scalar_seen result (rules.argument_of_type (site_seen at) (value_type of)) }
+{
+    scalar_in(at, of)?;
+    element_of_type(at, of)
+}
+
 fn declare_argument<'a>(
     alloc: Global,
     parameter: Named<'a>,
@@ -179,7 +187,7 @@ fn declare_argument<'a>(
     ensures { Gives (λ _. seen.room room.new) result (rules.declare_argument (seen.named parameter.entry) is_constant (seen.room room.old)) }
 {
     let at = parameter.site;
-    let scalar = element_of_type(at, parameter.of)?;
+    let scalar = argument_of_type(at, parameter.of)?;
     let slot = room.next_slot(at)?;
     room.declare_slot(at, parameter.name, parameter.of, is_constant)?;
     keep_argument(alloc, parameter, scalar, room)?;

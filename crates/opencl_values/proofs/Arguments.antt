@@ -11,15 +11,15 @@ use Rattle.opencl_tree.specs.declared.tree.Expr.{Expr}
 use Rattle.opencl_values.specs.Calls.{argument_in, dimension_of}
 use Rattle.opencl_values.specs.Faults.{WrongType, refused}
 use Rattle.opencl_values.specs.Singles.{as_scalar}
-use Rattle.opencl_values.specs.View.{single, values}
+use Rattle.opencl_values.specs.View.{single, singles_seen}
 use Rattle.opencl_values.specs.declared.singles.Single.{Single}
 
-pub argument_in-past : (ids : word.Kind) (to : types.Scalar) (site : core.Site) (vs : List Single) (n : ℕ) → length vs ≤ n → argument_in ids to site (values vs) n ≡ operations.nothing
+pub argument_in-past : (ids : word.Kind) (to : types.Scalar) (site : core.Site) (vs : List Single) (n : ℕ) → length vs ≤ n → argument_in ids to site (singles_seen vs) n ≡ operations.nothing
 argument_in-past ids to site [] n h = refl
 argument_in-past ids to site (v ∷ vs) zero h = absurd (omega arith)
 argument_in-past ids to site (v ∷ vs) (suc n) h = argument_in-past ids to site vs n (omega arith)
 
-pub argument_in-at : (ids : word.Kind) (to : types.Scalar) (site : core.Site) (vs : List Single) (n : ℕ) (d : Single) → n < length vs → argument_in ids to site (values vs) n ≡ as_scalar ids to site (single (get_or vs n d))
+pub argument_in-at : (ids : word.Kind) (to : types.Scalar) (site : core.Site) (vs : List Single) (n : ℕ) (d : Single) → n < length vs → argument_in ids to site (singles_seen vs) n ≡ as_scalar ids to site (single (get_or vs n d))
 argument_in-at ids to site [] n d h = absurd (omega arith)
 argument_in-at ids to site (v ∷ vs) zero d h = refl
 argument_in-at ids to site (v ∷ vs) (suc n) d h = argument_in-at ids to site vs n d (omega arith)

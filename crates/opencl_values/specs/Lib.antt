@@ -7,10 +7,16 @@ pub mod ElementsView
 pub mod Faults
 pub mod Functions
 pub mod FunctionsView
+pub mod Members
 pub mod Names
 pub mod Operations
+pub mod Pointers
 pub mod Saturation
 pub mod Scope
 pub mod Singles
 pub mod Values
+pub mod VectorCalls
+pub mod Vectors
+pub mod VectorsView
 pub mod View
+pub mod Wholes

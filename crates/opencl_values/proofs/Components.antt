@@ -1,0 +1,33 @@
+-- Components by their places.
+use Rattle.std.proofs.Common.{◌≡◌, ◌<◌, ◌≤◌, ◌-◌, ℕ, zero, suc, List, [], ◌∷◌, ◌++◌, length, map, get_or, refl, arith}
+use Rattle.std.proofs.lemmas.List.{length-map}
+use Rattle.core_code.specs.View.{term}
+use Rattle.core_code.specs.declared.tree.Term.{Term}
+use Rattle.semantics.specs.Core as core
+use Rattle.opencl_values.specs.Wholes.{last_with, nth_with}
+
+pub last_with-snoc : (t : core.Term) (ts : List Term) (u : Term) → last_with t (map term (ts ++ u ∷ [])) ≡ term u
+last_with-snoc t [] u = refl
+last_with-snoc t (x ∷ xs) u = last_with-snoc (term x) xs u
+
+pub ruleset last_term = (last_with-snoc)
+
+pub nth_with-none : (t : core.Term) (ts : List Term) (n : ℕ) → length ts ≡ 0 → nth_with t (map term ts) n ≡ t
+nth_with-none t [] n h = refl
+nth_with-none t (x ∷ xs) n h = absurd (omega arith)
+
+pub nth_with-at : (t : core.Term) (ts : List Term) (n : ℕ) (d : Term) → n < length ts → nth_with t (map term ts) n ≡ term (get_or ts n d)
+nth_with-at t [] n d h = absurd (omega arith)
+nth_with-at t (x ∷ xs) zero d h = refl
+nth_with-at t (x ∷ xs) (suc n) d h = nth_with-at (term x) xs n d (omega arith)
+
+pub nth_with-past : (t : core.Term) (ts : List Term) (n : ℕ) (d : Term) → 0 < length ts → length ts ≤ n → nth_with t (map term ts) n ≡ term (get_or ts (length ts - 1) d)
+nth_with-past t [] n d h g = absurd (omega arith)
+nth_with-past t (x ∷ []) (suc n) d h g = refl
+nth_with-past t (x ∷ []) zero d h g = absurd (omega arith)
+nth_with-past t (x ∷ y ∷ ys) zero d h g = absurd (omega arith)
+nth_with-past t (x ∷ y ∷ ys) (suc n) d h g = nth_with-past (term x) (y ∷ ys) n d (omega arith) (omega arith)
+
+pub ruleset one_term = (nth_with-none, nth_with-at, nth_with-past)
+
+pub ruleset lengths = (length-map)

@@ -128,11 +128,6 @@ next_slot at r = when (nat_lt (length r.slots) most_slots) TooMany at (length r.
 abbrev pub with_slot : Kind → Room → Room
 with_slot k r = record r { slots = r.slots ++ k ∷ [] }
 
--- a variable in the next slot
-abbrev pub slot_declared : Site → (name : List ℕ) → ValueType → (is_constant : Bool) → Room → Checked Room
-slot_declared at name t is_constant r =
-    then (next_slot at r) (λ slot. then (declared at name (VariableOf t slot is_constant) r) (λ d. Ok (with_slot (kind_of d.ids t.scalar) d)))
-
 -- a variable in the map of names, by the numbers of the statements in which it is visible
 abbrev pub with_range : Site → (name : List ℕ) → (first last : ℕ) → Room → Room
 with_range at name first last r = record r { names = with_variable name at first last r.names }

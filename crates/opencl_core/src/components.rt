@@ -114,7 +114,8 @@ fn one_more(number: u32) -> Result<u32, AllocError>
     }
 }
 
-fn slot_at(slot: u32, place: u32) -> Result<u32, AllocError>
+/// The slot of a component of a variable.
+pub fn slot_at(slot: u32, place: u32) -> Result<u32, AllocError>
     ensures { IfOk result (λ n. n ≡ slot + place) }
 {
     match slot.checked_add(place) {

@@ -101,7 +101,7 @@ pub struct Pointed {
     pub offset: Option<Term>,
 }
 
-fn pointed(at: Site, of: Part<'_>) -> Result<Pointed, ValueError>
+fn point_into(at: Site, of: Part<'_>) -> Result<Pointed, ValueError>
     ensures { Gives seen.pointed result (rules.pointed (site_seen at) (part_seen of.entry)) }
 {
     let Part {
@@ -127,7 +127,7 @@ pub fn pointed_in(alloc: Global, at: Site, of: &Expr, room: &Room) -> Result<Poi
     ensures { Gives seen.pointed result (rules.pointed_in (site_seen at) (expression of.now) (seen.room room.now)) }
 {
     let part = part_of(alloc, room.known(), at, of)?;
-    pointed(at, part)
+    point_into(at, part)
 }
 
 fn may_be(shared: Shared, of: &Pointed) -> bool

@@ -237,30 +237,6 @@ impl<'a> Room<'a> {
         }
     }
 
-    /// Declares a variable or a value parameter in the next slot.
-    pub fn declare_slot(
-        &mut self,
-        at: Site,
-        name: &'a str,
-        of: ValueType,
-        is_constant: bool,
-    ) -> Result<(), ValueError>
-        ensures { Gives (λ _. seen.room self.new) result (rules.slot_declared (site at) name.now (value_type of) is_constant (seen.room self.old)) }
-    {
-        let slot = self.next_slot(at)?;
-        self.declare(
-            at,
-            name,
-            Meaning::Variable {
-                of,
-                slot,
-                is_constant,
-            },
-        )?;
-        self.slots.push(of.scalar.kind(self.ids))?;
-        Ok(())
-    }
-
     // A variable in the map of names.
     fn push_range(
         &mut self,

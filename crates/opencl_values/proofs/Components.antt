@@ -21,12 +21,17 @@ nth_with-at t [] n d h = absurd (omega arith)
 nth_with-at t (x ∷ xs) zero d h = refl
 nth_with-at t (x ∷ xs) (suc n) d h = nth_with-at (term x) xs n d (omega arith)
 
+nth_with-last : (t : core.Term) (ts : List Term) (n k : ℕ) (d : Term) → length ts ≡ suc k → suc k ≤ n → nth_with t (map term ts) n ≡ term (get_or ts k d)
+nth_with-last t [] n k d h g = absurd (omega arith)
+nth_with-last t (x ∷ []) zero k d h g = absurd (omega arith)
+nth_with-last t (x ∷ []) (suc n) zero d h g = refl
+nth_with-last t (x ∷ []) (suc n) (suc k) d h g = absurd (omega arith)
+nth_with-last t (x ∷ y ∷ ys) zero k d h g = absurd (omega arith)
+nth_with-last t (x ∷ y ∷ ys) (suc n) zero d h g = absurd (omega arith)
+nth_with-last t (x ∷ y ∷ ys) (suc n) (suc k) d h g = nth_with-last (term x) (y ∷ ys) n k d (omega arith) (omega arith)
+
 pub nth_with-past : (t : core.Term) (ts : List Term) (n : ℕ) (d : Term) → 0 < length ts → length ts ≤ n → nth_with t (map term ts) n ≡ term (get_or ts (length ts - 1) d)
-nth_with-past t [] n d h g = absurd (omega arith)
-nth_with-past t (x ∷ []) (suc n) d h g = refl
-nth_with-past t (x ∷ []) zero d h g = absurd (omega arith)
-nth_with-past t (x ∷ y ∷ ys) zero d h g = absurd (omega arith)
-nth_with-past t (x ∷ y ∷ ys) (suc n) d h g = nth_with-past (term x) (y ∷ ys) n d (omega arith) (omega arith)
+nth_with-past t ts n d h g = nth_with-last t ts n (length ts - 1) d (omega arith) (omega arith)
 
 pub ruleset one_term = (nth_with-none, nth_with-at, nth_with-past)
 

@@ -12,5 +12,6 @@ pub mod PlacesView
 pub mod Repeating
 pub mod Rooms
 pub mod Sites
+pub mod VectorStores
 pub mod View
 pub mod Writing

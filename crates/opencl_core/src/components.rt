@@ -198,8 +198,8 @@ fn kept_value(
     vector_made(alloc, ids, at, Made::Kept(slot), of)
 }
 
-// Keeps all components in variables.
-fn keep_all(
+/// Keeps all components in variables.
+pub fn keep_all(
     alloc: Global,
     at: Site,
     of: &Value,
@@ -294,11 +294,12 @@ pub struct Spot {
     pub sign_site: Site,
 }
 
-fn stored_component(alloc: Global, spot: Spot, of: &Value, place: u32) -> Result<Term, AllocError>
-    ensures { IfOk result (λ t. term t ≡ conversions.stored (scalar_seen of.now.of.scalar) (site_seen spot.sign_site) (wholes.component (value_seen of.now) place).term) }
+/// A component as an element of memory.
+pub fn stored_component(alloc: Global, at: Site, of: &Value, place: u32) -> Result<Term, AllocError>
+    ensures { IfOk result (λ t. term t ≡ conversions.stored (scalar_seen of.now.of.scalar) (site_seen at) (wholes.component (value_seen of.now) place).term) }
 {
     let one = component(alloc, of, place)?;
-    stored(alloc, of.of.scalar, spot.sign_site, one.term)
+    stored(alloc, of.of.scalar, at, one.term)
 }
 
 fn component_index(
@@ -329,7 +330,7 @@ fn store_component(
         array: element.array,
         site: spot.at,
         index: component_index(alloc, spot.at, element, place)?,
-        value: stored_component(alloc, spot, of, place)?,
+        value: stored_component(alloc, spot.sign_site, of, place)?,
     };
     room.put(statement, spot.at, Sort::Other, &[])?;
     Ok(())
@@ -358,7 +359,8 @@ fn heeds_array(alloc: Global, array: Array, of: &Value, place: u32) -> Result<bo
     Ok(heeds(Changed::Elements(array), &one.term))
 }
 
-fn heed_none(alloc: Global, array: Array, of: &Value, places: &[u32]) -> Result<bool, AllocError>
+/// Whether no component depends on an array.
+pub fn heed_none(alloc: Global, array: Array, of: &Value, places: &[u32]) -> Result<bool, AllocError>
     ensures { IfOk result (λ b. b ≡ rules.heed_none (array_seen array) (value_seen of.now) places.now) }
 {
     for place in places {

@@ -20,4 +20,5 @@ pub mod pointing;
 pub mod rooms;
 mod sites;
 mod steady;
-pub mod writing;
+pub mod vector_stores;
+mod writing;

@@ -101,7 +101,8 @@ pub struct Pointed {
     pub offset: Option<Term>,
 }
 
-fn point_into(at: Site, of: Part<'_>) -> Result<Pointed, ValueError>
+/// What a pointer points into.
+pub fn point_into(at: Site, of: Part<'_>) -> Result<Pointed, ValueError>
     ensures { Gives seen.pointed result (rules.pointed (site_seen at) (part_seen of.entry)) }
 {
     let Part {

@@ -181,7 +181,7 @@ fn evaluated(alloc: Global, of: &Expr, room: &mut Room) -> Result<(), ValueError
             site,
             name,
             arguments,
-        } => called(*site, name.as_str(), arguments.as_slice(), room),
+        } => called(alloc, *site, name.as_str(), arguments.as_slice(), room),
         _ => effect(alloc, of, room),
     }
 }

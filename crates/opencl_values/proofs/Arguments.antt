@@ -11,8 +11,13 @@ use Rattle.opencl_tree.specs.declared.tree.Expr.{Expr}
 use Rattle.opencl_values.specs.Calls.{argument_in, dimension_of}
 use Rattle.opencl_values.specs.Faults.{WrongType, refused}
 use Rattle.opencl_values.specs.Singles.{as_scalar}
-use Rattle.opencl_values.specs.View.{single, singles_seen}
+use Rattle.opencl_values.specs.Scope.{Names}
+use Rattle.opencl_values.specs.Values.{vector_read}
+use Rattle.opencl_values.specs.VectorCalls.{wide_result}
+use Rattle.opencl_values.specs.View.{single, singles_seen, values}
+use Rattle.opencl_values.specs.Widened.{Wide}
 use Rattle.opencl_values.specs.declared.singles.Single.{Single}
+use Rattle.opencl_values.specs.declared.wholes.Value.{Value}
 
 pub argument_in-past : (ids : word.Kind) (to : types.Scalar) (site : core.Site) (vs : List Single) (n : ℕ) → length vs ≤ n → argument_in ids to site (singles_seen vs) n ≡ operations.nothing
 argument_in-past ids to site [] n h = refl
@@ -41,3 +46,16 @@ expressions-one (e ∷ []) d h = refl
 expressions-one (e ∷ x ∷ es) d h = absurd (omega arith)
 
 pub ruleset one_argument = (dimension_of-many, expressions-one)
+
+pub vector_read-other : (names : Names) (site : core.Site) (n : ℕ) (es : List Expr) → length es ≢ 2 → vector_read names site n (expressions es) ≡ refused WrongType site
+vector_read-other names site n [] h = refl
+vector_read-other names site n (e ∷ []) h = refl
+vector_read-other names site n (e ∷ x ∷ []) h = absurd (h refl)
+vector_read-other names site n (e ∷ x ∷ y ∷ es) h = refl
+
+pub wide_result-other : (ids : word.Kind) (w : Wide) (site : core.Site) (vs : List Value) → length vs ≢ 1 → wide_result ids w site (values vs) ≡ refused WrongType site
+wide_result-other ids w site [] h = refl
+wide_result-other ids w site (v ∷ []) h = absurd (h refl)
+wide_result-other ids w site (v ∷ u ∷ vs) h = refl
+
+pub ruleset other_arguments = (vector_read-other, wide_result-other)

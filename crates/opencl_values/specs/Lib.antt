@@ -11,6 +11,7 @@ pub mod Members
 pub mod Names
 pub mod Operations
 pub mod Pointers
+pub mod Reads
 pub mod Saturation
 pub mod Scope
 pub mod Singles
@@ -20,3 +21,5 @@ pub mod Vectors
 pub mod VectorsView
 pub mod View
 pub mod Wholes
+pub mod Widened
+pub mod WidenedView

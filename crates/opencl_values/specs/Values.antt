@@ -16,10 +16,12 @@ use Rattle.opencl_values.specs.Vectors.{Kept, vector_made, prefix_of, infix_of, 
 use Rattle.opencl_values.specs.Members.{member_of}
 use Rattle.opencl_values.specs.Names.{type_of_name, bytes_of}
 use Rattle.opencl_values.specs.Constants.{number_value, int_term, real_value, constant_named}
-use Rattle.opencl_values.specs.Elements.{Part, Element, part_meant, indexed, element_in, loaded_from}
+use Rattle.opencl_values.specs.Elements.{Part, Element, part_meant}
+use Rattle.opencl_values.specs.Reads.{indexed_by, element_at, element_value, vector_at}
+use Rattle.opencl_values.specs.Widened.{Wide, wide_named, read_width}
 use Rattle.opencl_values.specs.Functions.{Form, form_named, construct_called}
 use Rattle.opencl_values.specs.Pointers.{is_pointer, shifted_by, first_element}
-use Rattle.opencl_values.specs.VectorCalls.{called}
+use Rattle.opencl_values.specs.VectorCalls.{called, wide_result}
 
 -- a variable has a slot for each component, one behind the other
 abbrev pub variable_value : Site → ValueType → (slot : ℕ) → Value
@@ -39,16 +41,6 @@ value_meant site UnreadOf = refused (LeftOut Outside) site
 abbrev pub value_named : Site → List ℕ → Option Meaning → Checked Value
 value_named site name (Some m) = value_meant site m
 value_named site name None = then (found (constant_named site name) UnknownName site) (λ s. Ok (whole s))
-
--- an array with its last index, as an element, and as the element's value
-abbrev pub indexed_by : Site → Part → Value → Checked Part
-indexed_by site p i = then (only site i) (indexed site p)
-
-abbrev pub element_at : Site → Part → Value → Checked Element
-element_at site p i = then (indexed_by site p i) (element_in site)
-
-abbrev pub element_value : Site → Part → Value → Checked Value
-element_value site p i = then (element_at site p i) (λ e. Ok (loaded_from site e))
 
 abbrev pub sizeof_type : (ids : Kind) → Site → ValueType → Checked Value
 sizeof_type ids site t = then (bytes_of site t) (λ n. Ok (whole (single Size (Literal ids (pos n)))))
@@ -75,10 +67,23 @@ abbrev pub visible_called : Names → Site → Meaning → Checked Value
 visible_called names site UnreadOf = kept_or site (refused (LeftOut Outside) site) (drawn_at names site)
 visible_called names site m = refused WrongType site
 
-abbrev pub call_meant : Names → Site → List ℕ → Expressions → Checked (List Value) → Option Meaning → Option (Form × ℕ) → Checked Value
-call_meant names site name arguments values (Some m) f = visible_called names site m
-call_meant names site name arguments values None (Some f) = called names.ids f.0 f.1 site arguments values
-call_meant names site name arguments values None None = refused (LeftOut (construct_called name)) site
+-- conversions of vectors, and vectors that are read
+abbrev pub wide_called : Names → Site → List ℕ → Checked (List Value) → Option Wide → Checked Value
+wide_called names site name values (Some w) = then values (wide_result names.ids w site)
+wide_called names site name values None = refused (LeftOut (construct_called name)) site
+
+abbrev pub other_called : Names → Site → List ℕ → Checked (List Value) → (read : Checked Value) → (width : Option ℕ) → Checked Value
+other_called names site name values read (Some n) = read
+other_called names site name values read None = wide_called names site name values (wide_named name)
+
+abbrev pub call_meant : Names → Site → List ℕ → Expressions → Checked (List Value) → (read : Checked Value) → Option Meaning → Option (Form × ℕ) → Checked Value
+call_meant names site name arguments values read (Some m) f = visible_called names site m
+call_meant names site name arguments values read None (Some f) = called names.ids f.0 f.1 site arguments values
+call_meant names site name arguments values read None None = other_called names site name values read (read_width name)
+
+abbrev pub width_read : Option ℕ → ℕ
+width_read (Some n) = n
+width_read None = 0
 
 unfoldable mutual
   pub value_of : Names → Expression → Checked Value
@@ -86,7 +91,8 @@ unfoldable mutual
   value_of names (Real site spelling) = Ok (whole real_value)
   value_of names (Name site name) = value_named site name (meaning_of names.visible name)
   value_of names (Call site name arguments) =
-      call_meant names site name arguments (values_behind names [] arguments) (meaning_of names.visible name) (form_named name)
+      call_meant names site name arguments (values_behind names [] arguments) (vector_read names site (width_read (read_width name)) arguments)
+          (meaning_of names.visible name) (form_named name)
   value_of names (Index site of index) =
       then (part_of names site of) (λ p. then (value_of names index) (element_value site p))
   value_of names (Member site of name) = then (value_of names of) (λ v. member_of names.ids site v name)
@@ -110,6 +116,12 @@ unfoldable mutual
   pub values_behind : Names → (so_far : List Value) → Expressions → Checked (List Value)
   values_behind names vs nothing = Ok vs
   values_behind names vs (also e es) = then (value_of names e) (λ v. values_behind names (vs ++ v ∷ []) es)
+
+  -- so many elements from a multiple of so many on (6.12.7)
+  pub vector_read : Names → Site → (width : ℕ) → Expressions → Checked Value
+  vector_read names site n (also i (also p nothing)) =
+      then (value_of names i) (λ v. then (part_of names site p) (vector_at names.ids site n v))
+  vector_read names site n arguments = refused WrongType site
 
   -- what stands in front of a bracket: an array, perhaps with indexes, or another pointer
   pub part_of : Names → (bracket : Site) → Expression → Checked Part

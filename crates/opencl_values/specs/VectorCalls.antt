@@ -12,7 +12,9 @@ use Rattle.opencl_values.specs.Calls as calls
 use Rattle.opencl_values.specs.Calls.{Call, dimension_of, id_value, offset_value}
 use Rattle.opencl_values.specs.Faults.{Checked, WrongType, LeftOut, Vector, refused, then, when}
 use Rattle.opencl_values.specs.Functions.{Form, IdOf, Converts, Saturates, BitsAs, Integers, Floats, Tests, Reduces, Spreads, Offset, Absolute, Product24, Sum24, Scaled, Exponent, Missing, count_of}
+use Rattle.opencl_values.specs.Saturation.{has_bits_of}
 use Rattle.opencl_values.specs.Singles.{Single, single, alone}
+use Rattle.opencl_values.specs.Widened.{Wide}
 use Rattle.opencl_values.specs.Wholes.{whole, components_of, places}
 use Rattle.opencl_values.specs.Vectors.{gathered}
 
@@ -123,3 +125,19 @@ called ids (IdOf f) n site arguments values = then (dimension_of site arguments)
 called ids Offset n site arguments values = then (dimension_of site arguments) (λ d. Ok (whole (offset_value ids)))
 called ids (Missing c) n site arguments values = refused (LeftOut c) site
 called ids f n site arguments values = then values (result_of ids f n site)
+
+-- a conversion of a vector gives one of as many components (6.2.3), its bits as another type component by component (6.2.4.2). Bits that
+-- make components of another size are left out
+abbrev pub may_reread : Form → Scalar → Bool
+may_reread (BitsAs to) s = has_bits_of s to
+may_reread f s = true
+
+abbrev pub wide_made : (ids : Kind) → Wide → Site → Value → Value
+wide_made ids w site v =
+    value_of (type_of (component_scalar w.form v.type.scalar) w.width)
+    (called_behind ids w.form 0 site v.type.scalar (v ∷ []) [] (places w.width))
+
+abbrev pub wide_result : (ids : Kind) → Wide → Site → List Value → Checked Value
+wide_result ids w site (v ∷ []) =
+    when (nat_eq v.type.width w.width && may_reread w.form v.type.scalar) (LeftOut Vector) site (wide_made ids w site v)
+wide_result ids w site vs = refused WrongType site

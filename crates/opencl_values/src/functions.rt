@@ -349,12 +349,11 @@ impl Form {
 }
 
 // The form of a name in a table, with its place there, counted from a number.
-fn entry_at(table: &[(&[u8], Form)], name: &str, from: u32) -> Option<(Form, u32)>
+fn entry_at(table: &[(&[u8], Form)], name: &[u8], from: u32) -> Option<(Form, u32)>
     requires low { from ≤ 64 }
     requires few { length table.now ≤ 1000 }
     ensures { option_map form_place result ≡ rules.entry_at (map form_entry table.now) name.now from }
 {
-    let name = name.as_bytes();
     let mut place = from;
     for (text, form) in table {
         if *text == name {
@@ -370,12 +369,20 @@ fn entry_at(table: &[(&[u8], Form)], name: &str, from: u32) -> Option<(Form, u32
 pub fn form_named(name: &str) -> Option<(Form, u32)>
     ensures { option_map form_place result ≡ rules.form_named name.now }
 {
+    let name = name.as_bytes();
     if let Some(found) = entry_at(functions(), name, 64) {
         return Some(found);
     }
     if let Some(found) = entry_at(item_functions(), name, 0) {
         return Some(found);
     }
+    entry_at(conversions(), name, 0)
+}
+
+/// The form of the name of a conversion of a scalar (OpenCL 1.2, 6.2.3 and 6.2.4.2).
+pub fn conversion_of(name: &[u8]) -> Option<(Form, u32)>
+    ensures { option_map form_place result ≡ rules.entry_at rules.conversions name.now 0 }
+{
     entry_at(conversions(), name, 0)
 }
 

@@ -94,7 +94,7 @@ pub fn moved(
 }
 
 /// A pointer, so many elements on or back (C99 6.5.6p8).
-fn shifted<'a>(
+pub fn shifted<'a>(
     alloc: Global,
     at: Site,
     operator: Operator,

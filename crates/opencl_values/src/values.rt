@@ -11,6 +11,7 @@ ghost use Rattle.opencl_values.specs.ElementsView.{element as element_seen, part
 ghost use Rattle.opencl_values.specs.Faults as faults;
 ghost use Rattle.opencl_values.specs.FunctionsView.{form as form_seen};
 ghost use Rattle.opencl_values.specs.Names as types;
+ghost use Rattle.opencl_values.specs.Reads as reads;
 ghost use Rattle.opencl_values.specs.Scope as scope;
 ghost use Rattle.opencl_values.specs.Constants as constants;
 ghost use Rattle.opencl_values.specs.VectorCalls as vector_calls;
@@ -18,24 +19,27 @@ ghost use Rattle.opencl_values.specs.Vectors as vectors;
 ghost use Rattle.opencl_values.specs.Wholes as wholes;
 ghost use Rattle.opencl_values.specs.Values as rules;
 ghost use Rattle.opencl_values.specs.View.{bindings, drawn as drawn_seen, maybe_drawn, meaning as meaning_seen, names as names_seen, value as value_seen, values as values_seen, Gives};
+ghost use Rattle.opencl_values.specs.WidenedView.{wide as wide_seen};
 ghost use Rattle.syntax.specs.View.{infix_sign};
 ghost use Rattle.words.specs.View.{kind as kind_seen};
 
 use crate::calls::dimension_of;
 use crate::constants::{constant_named, number_value, real_value};
-use crate::elements::{Element, Part, element_in, indexed, loaded_from, part_meant};
+use crate::elements::{Element, Part, part_meant};
 use crate::error::{Construct, Fault, ValueError, refused};
 use crate::functions::{Form, construct_called, form_named};
 use crate::members::member_of;
 use crate::names::{bytes_of, type_of_name};
 use crate::pointers::{first_element, is_pointer, shifted_by};
+use crate::reads::{element_at, element_value, indexed_by, vector_at};
 use crate::scope::{Binding, Drawn, Meaning, Names, drawn_at, meaning_of};
 use crate::singles::Single;
-use crate::vector_calls::result_of;
+use crate::vector_calls::{result_of, wide_result};
 use crate::vectors::{
     Made, conditional_of, converted_to, infix_of, literal_of, prefix_of, vector_made,
 };
-use crate::wholes::{Value, only, whole};
+use crate::wholes::{Value, whole};
+use crate::widened::{Wide, read_width, wide_named};
 use core_code::tree::{Function, Operator, Site, Term};
 use core_pieces::pieces::literal;
 use opencl_terms::scalars::{Scalar, ValueType};
@@ -154,34 +158,6 @@ fn offset(alloc: Global, ids: Kind, at: Site, arguments: &[Expr]) -> Result<Valu
     Ok(whole(alloc, one)?)
 }
 
-// An array with one index more.
-fn indexed_by<'a>(
-    alloc: Global,
-    at: Site,
-    of: Part<'a>,
-    index: Value,
-) -> Result<Part<'a>, ValueError>
-    ensures { Gives part_seen result (rules.indexed_by (site at) (part_seen of.entry) (value_seen index)) }
-{
-    let index = only(at, index)?;
-    indexed(alloc, at, of, index)
-}
-
-// An array with its last index, as an element.
-fn element_at(alloc: Global, at: Site, of: Part<'_>, index: Value) -> Result<Element, ValueError>
-    ensures { Gives element_seen result (rules.element_at (site at) (part_seen of.entry) (value_seen index)) }
-{
-    let part = indexed_by(alloc, at, of, index)?;
-    element_in(alloc, at, part)
-}
-
-fn element_value(alloc: Global, at: Site, of: Part<'_>, index: Value) -> Result<Value, ValueError>
-    ensures { Gives value_seen result (rules.element_value (site at) (part_seen of.entry) (value_seen index)) }
-{
-    let element = element_at(alloc, at, of, index)?;
-    Ok(loaded_from(alloc, at, element)?)
-}
-
 // The value that was written out before.
 fn kept(alloc: Global, at: Site, drawn: Drawn) -> Result<Value, ValueError>
     ensures { Gives value_seen result (Ok (rules.kept (site at) (drawn_seen drawn))) }
@@ -263,9 +239,64 @@ fn call_named(
         Some(meaning) => return visible_called(alloc, names, at, meaning),
         None => {}
     }
-    match form_named(name) {
-        Some(form) => called(alloc, names, form, at, arguments),
+    if let Some(form) = form_named(name) {
+        return called(alloc, names, form, at, arguments);
+    }
+    if let Some(width) = read_width(name) {
+        return vector_read(alloc, names, at, width, arguments);
+    }
+    match wide_named(alloc, name)? {
+        Some(wide) => wide_called(alloc, names, at, wide, arguments),
         None => refused(Fault::LeftOut(construct_called(name)), at),
+    }
+}
+
+// A conversion of a vector.
+#[cycle(values)]
+fn wide_called(
+    alloc: Global,
+    names: Names,
+    at: Site,
+    wide: Wide,
+    arguments: &[Expr],
+) -> Result<Value, ValueError>
+    ensures { Gives value_seen result (faults.then (rules.values_behind (names_seen names.entry) [] (expressions arguments.now)) (vector_calls.wide_result (kind_seen names.entry.ids) (wide_seen wide) (site at))) }
+{
+    let values = values_of(alloc, names, arguments)?;
+    wide_result(alloc, names.ids, wide, at, values.as_slice())
+}
+
+// A vector of elements, by a number of vectors and a pointer.
+#[cycle(values)]
+fn read_at(
+    alloc: Global,
+    names: Names,
+    at: Site,
+    width: u32,
+    by: &Expr,
+    of: &Expr,
+) -> Result<Value, ValueError>
+    ensures { Gives value_seen result (faults.then (rules.value_of (names_seen names.entry) (expression by.now)) (λ v. faults.then (rules.part_of (names_seen names.entry) (site at) (expression of.now)) (reads.vector_at (kind_seen names.entry.ids) (site at) width v))) }
+{
+    let by = value_of(alloc, names, by)?;
+    let part = part_of(alloc, names, at, of)?;
+    vector_at(alloc, names.ids, at, width, by, part)
+}
+
+#[cycle(values)]
+#[tactic(auto, using(crate::proofs::Arguments::other_arguments), unfolding(crate::specs::Values::vector_read))]
+fn vector_read(
+    alloc: Global,
+    names: Names,
+    at: Site,
+    width: u32,
+    arguments: &[Expr],
+) -> Result<Value, ValueError>
+    ensures { Gives value_seen result (rules.vector_read (names_seen names.entry) (site at) width (expressions arguments.now)) }
+{
+    match arguments {
+        [by, of] => read_at(alloc, names, at, width, by, of),
+        _ => refused(Fault::WrongType, at),
     }
 }
 

@@ -14,15 +14,18 @@ ghost use Rattle.opencl_values.specs.CallsView.{call as call_seen};
 ghost use Rattle.opencl_values.specs.FunctionsView.{form as form_seen};
 ghost use Rattle.opencl_values.specs.VectorCalls as rules;
 ghost use Rattle.opencl_values.specs.View.{value as value_seen, values as values_seen, Gives};
+ghost use Rattle.opencl_values.specs.WidenedView.{wide as wide_seen};
 ghost use Rattle.words.specs.View.{kind as kind_seen};
 
 use crate::calls;
 use crate::calls::{Call, argument, scalar_made, term_made, test};
-use crate::error::{Fault, ValueError, refused};
+use crate::error::{Construct, Fault, ValueError, refused};
 use crate::functions::Form;
+use crate::saturation::has_bits_of;
 use crate::singles::{Single, alone};
 use crate::vectors::gathered;
 use crate::wholes::{Value, components_of, nothing, places, whole};
+use crate::widened::Wide;
 use core_code::tree::{Relation, Site, Term, UnaryOperator};
 use core_pieces::copies::copy_of;
 use core_pieces::pieces::{compare, literal, opaque, select, unary};
@@ -313,5 +316,59 @@ pub fn result_of(
         vector_result(alloc, ids, called, at, of, to)
     } else {
         scalar_result(alloc, ids, called, at, of)
+    }
+}
+
+fn may_reread(form: Form, of: Scalar) -> bool
+    ensures { result ≡ rules.may_reread (form_seen form) (scalar_seen of) }
+{
+    match form {
+        Form::BitsAs(to) => has_bits_of(of, to),
+        _ => true,
+    }
+}
+
+fn wide_made(
+    alloc: Global,
+    ids: Kind,
+    wide: Wide,
+    at: Site,
+    to: Scalar,
+    of: &[Value],
+) -> Result<Value, AllocError>
+    ensures { IfOk result (λ v. value_seen v ≡ types.value_of (types.type_of (rules.component_scalar (form_seen wide.form) (scalar_seen to)) wide.width) (rules.called_behind (kind_seen ids) (form_seen wide.form) 0 (site at) (scalar_seen to) (values_seen of.now) [] (wholes_rules.places wide.width))) }
+{
+    let call = VectorCall {
+        ids,
+        form: wide.form,
+        operation: 0,
+        at,
+        to,
+        of,
+    };
+    wide_called(alloc, call, wide.width)
+}
+
+/// What a conversion of a vector makes of its argument (OpenCL 1.2, 6.2.3 and 6.2.4.2).
+#[tactic(auto, using(crate::proofs::Arguments::other_arguments))]
+pub fn wide_result(
+    alloc: Global,
+    ids: Kind,
+    wide: Wide,
+    at: Site,
+    of: &[Value],
+) -> Result<Value, ValueError>
+    ensures { Gives value_seen result (rules.wide_result (kind_seen ids) (wide_seen wide) (site at) (values_seen of.now)) }
+{
+    match of {
+        [value] => {
+            let to = value.of;
+            if to.width == wide.width && may_reread(wide.form, to.scalar) {
+                Ok(wide_made(alloc, ids, wide, at, to.scalar, of)?)
+            } else {
+                refused(Fault::LeftOut(Construct::Vector), at)
+            }
+        }
+        _ => refused(Fault::WrongType, at),
     }
 }

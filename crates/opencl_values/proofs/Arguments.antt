@@ -48,6 +48,7 @@ expressions-one (e ∷ x ∷ es) d h = absurd (omega arith)
 pub ruleset one_argument = (dimension_of-many, expressions-one)
 
 pub vector_read-other : (names : Names) (site : core.Site) (n : ℕ) (es : List Expr) → length es ≢ 2 → vector_read names site n (expressions es) ≡ refused WrongType site
+unfolding vector_read
 vector_read-other names site n [] h = refl
 vector_read-other names site n (e ∷ []) h = refl
 vector_read-other names site n (e ∷ x ∷ []) h = absurd (h refl)

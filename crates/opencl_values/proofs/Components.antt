@@ -1,5 +1,5 @@
 -- Components by their places.
-use Rattle.std.proofs.Common.{◌≡◌, ◌<◌, ◌≤◌, ◌-◌, ℕ, zero, suc, List, [], ◌∷◌, ◌++◌, length, map, get_or, refl, arith}
+use Rattle.std.proofs.Common.{◌≡◌, ◌<◌, ◌≤◌, ◌-◌, subst, sym, IfOk, Result, slice_index_or, ℕ, zero, suc, List, [], ◌∷◌, ◌++◌, length, map, get_or, refl, arith}
 use Rattle.std.proofs.lemmas.List.{length-map}
 use Rattle.core_code.specs.View.{term}
 use Rattle.core_code.specs.declared.tree.Term.{Term}
@@ -32,6 +32,16 @@ nth_with-last t (x ∷ y ∷ ys) (suc n) (suc k) d h g = nth_with-last (term x) 
 
 pub nth_with-past : (t : core.Term) (ts : List Term) (n : ℕ) (d : Term) → 0 < length ts → length ts ≤ n → nth_with t (map term ts) n ≡ term (get_or ts (length ts - 1) d)
 nth_with-past t ts n d h g = nth_with-last t ts n (length ts - 1) d (omega arith) (omega arith)
+
+pub nth_with-is : (t : core.Term) (ts : List Term) (n : ℕ) (u : Term) → n < length ts → u ≡ slice_index_or ts n u → nth_with t (map term ts) n ≡ term u
+nth_with-is t ts n u h e = subst (λ w. nth_with t (map term ts) n ≡ term w) (sym e) (nth_with-at t ts n u h)
+
+pub nth_with-last-is : (t : core.Term) (ts : List Term) (n : ℕ) (u : Term) → (length ts ≡ 0 → ⊥) → length ts ≤ n → u ≡ slice_index_or ts (length ts - 1) u → nth_with t (map term ts) n ≡ term u
+nth_with-last-is t [] n u h g e = absurd (h refl)
+nth_with-last-is t (x ∷ xs) n u h g e = subst (λ w. nth_with t (map term (x ∷ xs)) n ≡ term w) (sym e) (nth_with-past t (x ∷ xs) n u (omega arith) g)
+
+pub given : {E : Type 0} (r : Result Term E) (y z : core.Term) → y ≡ z → IfOk r (λ t. term t ≡ z) → IfOk r (λ t. term t ≡ y)
+given r y z e h = subst (λ w. IfOk r (λ t. term t ≡ w)) (sym e) h
 
 pub ruleset one_term = (nth_with-none, nth_with-at, nth_with-past)
 

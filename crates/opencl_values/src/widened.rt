@@ -60,7 +60,7 @@ fn one_digit(digits: &[u8]) -> Option<Counted>
     }
 }
 
-fn counted(digits: &[u8]) -> Option<Counted>
+fn count_in(digits: &[u8]) -> Option<Counted>
     ensures { option_map counted_seen result ≡ rules.counted digits.now }
 {
     if digits.starts_with(b"16") {
@@ -115,7 +115,7 @@ pub struct Wide {
     pub form: Form,
 }
 
-fn wide(width: u32, conversion: Option<(Form, u32)>) -> Option<Wide>
+fn wide_with(width: u32, conversion: Option<(Form, u32)>) -> Option<Wide>
     ensures { option_map wide_seen result ≡ rules.wide width (option_map form_place conversion) }
 {
     let (form, _) = conversion?;
@@ -129,17 +129,17 @@ pub fn wide_named(alloc: Global, name: &str) -> Result<Option<Wide>, AllocError>
 {
     let name = name.as_bytes();
     let letters = letters_before(name);
-    let Some(counted) = counted(behind(name, letters)) else {
+    let Some(counted) = count_in(behind(name, letters)) else {
         return Ok(None);
     };
     let short = without(alloc, name, letters, counted.digits)?;
-    Ok(wide(counted.width, conversion_of(short.as_slice())))
+    Ok(wide_with(counted.width, conversion_of(short.as_slice())))
 }
 
 fn width_alone(rest: &[u8]) -> Option<u32>
     ensures { result ≡ rules.width_alone rest.now (rules.counted rest.now) }
 {
-    let counted = counted(rest)?;
+    let counted = count_in(rest)?;
     if counted.digits as usize == rest.len() {
         Some(counted.width)
     } else {

@@ -197,11 +197,13 @@ begin_with_list o (suc left) (and_then (Given e) es) r = then (begin_with o (suc
 begin_with_list o (suc left) (and_then Absent es) r = refused (LeftOut InitialList) o.site
 begin_with_list o (suc left) (and_then (Listed at is) es) r = refused (LeftOut InitialList) o.site
 
+abbrev pub begin_listed : (dimensions : ℕ) → Site → Initials → Own → Room → Checked Room
+begin_listed n at es o r = cond (nat_eq n 1 && not o.is_vector) (begin_with_list o o.length es r) (refused (LeftOut InitialList) at)
+
 abbrev pub begin_own : (dimensions : ℕ) → Initial → (Own × Room) → Checked Room
 begin_own n Absent o = Ok o.1
 begin_own n (Given e) o = refused WrongType o.0.site
-begin_own n (Listed at es) o =
-    cond (nat_eq n 1 && not o.0.is_vector) (begin_with_list o.0 o.0.length es o.1) (refused (LeftOut InitialList) at)
+begin_own n (Listed at es) o = begin_listed n at es o.0 o.1
 
 abbrev pub declare_own : Shared → Declarator → List (Option Expression) → Room → Checked Room
 declare_own c d ds r =
@@ -289,10 +291,14 @@ declare_in_space c d (Some Local) r = declare_local_variable c d d.dimensions r
 declare_in_space c d (Some Constant) r = refused (LeftOut ConstantVariable) d.site
 declare_in_space c d (Some Global) r = refused WrongType d.site
 
+abbrev pub declare_starred : Shared → Declarator → List (Option Expression) → Room → Checked Room
+declare_starred c d ds r = cond (nat_eq (length ds) 0) (declare_pointer c d d.initial r) (refused (LeftOut Pointer) d.site)
+
+-- by its stars
 abbrev pub declare_one : Shared → Declarator → List Qualifiers → Room → Checked Room
-declare_one c d [] r = declare_in_space c d c.qualifiers.space r
-declare_one c d (q ∷ []) r = cond (nat_eq (length d.dimensions) 0) (declare_pointer c d d.initial r) (refused (LeftOut Pointer) d.site)
-declare_one c d (q ∷ p ∷ qs) r = refused (LeftOut Pointer) d.site
+declare_one c d stars r =
+    cond (nat_eq (length stars) 0) (declare_in_space c d c.qualifiers.space r)
+    (cond (nat_eq (length stars) 1) (declare_starred c d d.dimensions r) (refused (LeftOut Pointer) d.site))
 
 abbrev pub declare_all : Shared → List Declarator → Room → Checked Room
 declare_all c [] r = Ok r

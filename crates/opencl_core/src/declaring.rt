@@ -256,6 +256,22 @@ fn declare_in_space<'a>(
     }
 }
 
+fn declare_starred<'a>(
+    alloc: Global,
+    shared: Shared,
+    declarator: &'a Declarator,
+    room: &mut Room<'a>,
+) -> Result<(), ValueError>
+    ensures { Gives (λ _. seen.room room.new) result (rules.declare_starred (seen.shared shared) (declarator_seen declarator.now) (declarator_seen declarator.now).dimensions (seen.room room.old)) }
+{
+    if declarator.dimensions.is_empty() {
+        declare_pointer(alloc, shared, declarator, room)
+    } else {
+        refused(Fault::LeftOut(Construct::Pointer), declarator.site)
+    }
+}
+
+#[tactic(auto, using(crate::proofs::Lists::kept))]
 fn declare_one<'a>(
     alloc: Global,
     shared: Shared,
@@ -264,11 +280,9 @@ fn declare_one<'a>(
 ) -> Result<(), ValueError>
     ensures { Gives (λ _. seen.room room.new) result (rules.declare_one (seen.shared shared) (declarator_seen declarator.now) (declarator_seen declarator.now).stars (seen.room room.old)) }
 {
-    match declarator.stars.as_slice() {
-        [] => declare_in_space(alloc, shared, declarator, room),
-        [_] if declarator.dimensions.is_empty() => {
-            declare_pointer(alloc, shared, declarator, room)
-        }
+    match declarator.stars.len() {
+        0 => declare_in_space(alloc, shared, declarator, room),
+        1 => declare_starred(alloc, shared, declarator, room),
         _ => refused(Fault::LeftOut(Construct::Pointer), declarator.site),
     }
 }

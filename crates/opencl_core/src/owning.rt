@@ -238,6 +238,23 @@ fn begin_with_list(
     }
 }
 
+fn begin_listed(
+    alloc: Global,
+    own: Own,
+    dimensions: usize,
+    at: Site,
+    values: &[Initial],
+    room: &mut Room,
+) -> Result<(), ValueError>
+    ensures { Gives (λ _. seen.room room.new) result (rules.begin_listed dimensions (site_seen at) (initials_seen values.now) (seen.own own) (seen.room room.old)) }
+{
+    if dimensions == 1 && !own.is_vector {
+        begin_with_list(alloc, own, own.length, values, room)
+    } else {
+        refused(Fault::LeftOut(Construct::InitialList), at)
+    }
+}
+
 #[tactic(auto, using(crate::proofs::Trees::lists))]
 fn begin_own(
     alloc: Global,
@@ -252,11 +269,7 @@ fn begin_own(
         Initial::Absent => Ok(()),
         Initial::Given(_) => refused(Fault::WrongType, own.site),
         Initial::Listed { site, values } => {
-            if dimensions == 1 && !own.is_vector {
-                begin_with_list(alloc, own, own.length, values.as_slice(), room)
-            } else {
-                refused(Fault::LeftOut(Construct::InitialList), *site)
-            }
+            begin_listed(alloc, own, dimensions, *site, values.as_slice(), room)
         }
     }
 }

@@ -1,5 +1,6 @@
 pub mod SignNumbers
 pub mod Macros
+pub mod Compilers
 pub mod Expansion
 pub mod Machine
 pub mod Operators

@@ -7,6 +7,7 @@ use Rattle.opencl_tokens.specs.Tokens.{TokenKind, Token, End}
 use Rattle.opencl_macros.specs.Macros.{Macro, Table, entry, look, is_defined, is_mark, on}
 use Rattle.opencl_macros.specs.Expansion.{Fed, Word, Behind}
 use Rattle.opencl_macros.specs.Machine.{Expanded, expanded, is_left_out}
+use Rattle.opencl_macros.specs.Compilers.{whether_defined}
 use Rattle.opencl_macros.specs.Conditions.{holds}
 use Rattle.opencl_macros.specs.Questions.{answered}
 use Rattle.opencl_macros.specs.Questions as questions
@@ -123,7 +124,8 @@ same_flag false b = not b
 
 abbrev pub tests : State → Site → Option (List ℕ) → (wanted : Bool) → Went
 tests s site None wanted = Err site
-tests s site (Some name) wanted = opens s site (Ok (same_flag wanted (is_defined name s.table), s.left))
+tests s site (Some name) wanted =
+    on (whether_defined s.table site name) (λ b. opens s site (Ok (same_flag wanted b, s.left)))
 
 -- the condition of an `#elif` is looked at where no group was read before
 abbrev pub turns_to : State → Site → List Token → Site → List Conditional → Group → Went

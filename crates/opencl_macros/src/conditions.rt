@@ -8,6 +8,7 @@ ghost use Rattle.opencl_macros.specs.Conditions as meaning;
 ghost use Rattle.opencl_macros.specs.Seen.{tokens_seen, Gives};
 ghost use Rattle.opencl_macros.specs.SeenConditions.{binary as binary_seen, maybe_binary, part as part_seen, same_flag, same_value, value_rest};
 
+use crate::compilers::is_compilers;
 use crate::macros::is_mark;
 use crate::operators::{Binary, binary_value, choice, negated, negative, tightness};
 use crate::{MacroError, Token, TokenKind};
@@ -293,7 +294,7 @@ fn operand<'a>(
     }
     match tokens[0].kind {
         TokenKind::Name(name) => {
-            if name == "defined" {
+            if name == "defined" || is_compilers(name) {
                 Err(MacroError::At(site))
             } else {
                 Ok((Some(0), behind(tokens)))

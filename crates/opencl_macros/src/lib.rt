@@ -5,6 +5,7 @@
 
 ghost use Rattle.std.specs.Prelude.{◌≡◌};
 
+mod compilers;
 mod conditions;
 mod directives;
 mod feed;

@@ -11,6 +11,7 @@ ghost use Rattle.opencl_macros.specs.SeenConditions.{same_flag};
 ghost use Rattle.opencl_macros.specs.SeenReading.{conditional, conditionals, group, held, state, table_of};
 ghost use Rattle.opencl_macros.specs.SeenQuestions.{tokens_of};
 
+use crate::compilers::whether_defined;
 use crate::conditions::holds;
 use crate::directives::{Directive, directive_of};
 use crate::feed::Fed;
@@ -277,6 +278,7 @@ fn same(wanted: bool, holds: bool) -> bool
     if wanted { holds } else { !holds }
 }
 
+#[tactic(auto, using(crate::proofs::Handing::handed))]
 fn test_name(
     s: &mut State<'_>,
     site: Site,
@@ -288,7 +290,7 @@ fn test_name(
     match name {
         None => Err(MacroError::At(site)),
         Some(name) => {
-            let is_held = same(wanted, is_defined(name, &s.table));
+            let is_held = same(wanted, whether_defined(&s.table, site, name)?);
             let left = s.left;
             put_conditional(s, site, first_group(is_held), false, left)
         }

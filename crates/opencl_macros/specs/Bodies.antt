@@ -23,6 +23,10 @@ pub record Filled : Type 0 where
 abbrev pub filled : List Fed → (left : ℕ) → (is_bare joins : Bool) → Filled
 filled tokens left is_bare joins = record { tokens = tokens; left = left; is_bare = is_bare; joins = joins }
 
+-- nothing is put in as yet
+abbrev pub begun : (left : ℕ) → Filled
+begun left = filled [] left true false
+
 abbrev pub with_part : Filled → List Fed → (is_bare : Bool) → Option Filled
 with_part f tokens is_bare =
     cond (nat_le (length tokens) f.left) (Some (filled (f.tokens ++ tokens) (f.left - length tokens) is_bare false)) None
@@ -60,6 +64,9 @@ pub record Supply : Type 0 where
   pub given : List (List Fed)
   pub expanded : List (List Fed)
 
+abbrev pub supply : (given expanded : List (List Fed)) → Supply
+supply given expanded = record { given = given; expanded = expanded }
+
 -- beside `##` an argument is put in as it stands (6.10.3.1p1, 6.10.3.3p2)
 abbrev pub arguments_for : Filled → Supply → (behind : List Token) → List (List Fed)
 arguments_for f supply behind = cond (f.joins || is_front HashHash behind) supply.given supply.expanded
@@ -74,10 +81,3 @@ abbrev pub replaced : Site → Option (List Token) → Supply → Filled → (bo
 replaced site parameters supply f [] = Some f
 replaced site parameters supply f (t ∷ body) =
     on_filled (put_one site parameters (arguments_for f supply body) f t) (λ g. replaced site parameters supply g body)
-
-abbrev pub supply : (given expanded : List (List Fed)) → Supply
-supply given expanded = record { given = given; expanded = expanded }
-
--- nothing is put in as yet
-abbrev pub begun : (left : ℕ) → Filled
-begun left = filled [] left true false

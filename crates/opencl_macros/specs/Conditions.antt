@@ -1,5 +1,5 @@
 -- The expression of a condition, read from the left (C99 6.10.1, 6.6).
-use Rattle.std.specs.Prelude.{ℕ, zero, suc, ◌+◌, ◌^◌, List, [], ◌∷◌, take, drop, length, Bool, true, false, cond, not, ◌||◌, nat_eq, nat_lt, bytes_eq, Option, Some, None, Result, Ok, Err, codes}
+use Rattle.std.specs.Prelude.{ℕ, zero, suc, ◌+◌, ◌^◌, List, [], ◌∷◌, take, drop, length, Bool, cond, not, ◌||◌, nat_eq, nat_lt, bytes_eq, Option, Some, None, Result, Ok, Err, codes}
 use Rattle.semantics.specs.Core.{Site}
 use Rattle.semantics.specs.Word as words
 use Rattle.opencl_tokens.specs.Faults.{Answered}

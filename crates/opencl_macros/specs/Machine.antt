@@ -54,7 +54,8 @@ use_of name site macro arguments = record { name = name; site = site; macro = ma
 abbrev pub calls : Machine → (name : List ℕ) → Site → Macro → (parameters : List Token) → Option Gathered → Result Next Site
 calls m name site macro parameters None = Err site
 calls m name site macro parameters (Some g) =
-    cond (fits parameters g.arguments) (Ok (Calls (use_of name site macro g.arguments) (machine_with g.rest g.active m.out m.left))) (Err site)
+    cond (fits parameters g.arguments) (Ok (Calls (use_of name site macro g.arguments) (machine_with g.rest g.active m.out m.left)))
+    (Err site)
 
 -- a function without `(` behind it is a token as others are (6.10.3p10)
 abbrev pub uses : Machine → Token → (name : List ℕ) → Macro → Option (List Token) → Result Next Site
@@ -72,7 +73,8 @@ meets m token name (Some macro) =
 -- the place of a use and the name of the file have no token here
 abbrev pub is_left_out : (name : List ℕ) → Bool
 is_left_out name =
-    bytes_eq name (codes "__LINE__") || (bytes_eq name (codes "__FILE__") || (bytes_eq name (codes "__DATE__") || bytes_eq name (codes "__TIME__")))
+    bytes_eq name (codes "__LINE__") || (bytes_eq name (codes "__FILE__")
+    || (bytes_eq name (codes "__DATE__") || bytes_eq name (codes "__TIME__")))
 
 abbrev pub named : Table → Machine → Token → (name : List ℕ) → Result Next Site
 named table m token name = cond (is_left_out name) (Err token.site) (meets m token name (look name table None))

@@ -1,5 +1,5 @@
 -- Macros: names with what stands for them (C99 6.10.3).
-use Rattle.std.specs.Prelude.{ℕ, List, [], ◌∷◌, Bool, true, false, cond, ◌&&◌, ◌||◌, bytes_eq, Option, Some, None, is_some, Result, Ok, Err, codes}
+use Rattle.std.specs.Prelude.{ℕ, List, [], ◌∷◌, Bool, true, false, cond, ◌&&◌, ◌||◌, bytes_eq, Option, Some, None, is_some, Result, Ok, Err}
 use Rattle.semantics.specs.Core.{Site}
 use Rattle.opencl_tokens.specs.Signs.{Sign, Hash}
 use Rattle.opencl_tokens.specs.Tokens.{TokenKind, Token, Name, Mark}

@@ -35,7 +35,8 @@ joined_kind front back = None
 
 abbrev pub joined_word : Site → Token → Option TokenKind → Option Fed
 joined_word site front None = None
-joined_word site front (Some kind) = Some (Word (record { kind = kind; site = site; begins_line = false; is_spaced = front.is_spaced }) false)
+joined_word site front (Some kind) =
+    Some (Word (record { kind = kind; site = site; begins_line = false; is_spaced = front.is_spaced }) false)
 
 -- two tokens are one, at the place of the use
 abbrev pub joined : Site → (front back : Fed) → Option Fed

@@ -10,7 +10,6 @@ use Rattle.opencl_tokens.specs.declared.Token.{Token}
 use Rattle.opencl_macros.specs.Macros as macros
 use Rattle.opencl_macros.specs.Expansion as expansion
 use Rattle.opencl_macros.specs.Bodies as bodies
-use Rattle.opencl_macros.specs.Machine as machines
 use Rattle.opencl_macros.specs.declared.MacroError.{MacroError}
 use Rattle.opencl_macros.specs.declared.MacroError.TheVariants as errors
 use Rattle.opencl_macros.specs.declared.macros.Macro.{Macro}

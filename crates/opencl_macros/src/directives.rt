@@ -152,7 +152,6 @@ fn function_with<'a>(
 }
 
 /// What stands behind the `(` of a function.
-
 fn function<'a>(name: &'a str, tokens: &'a [Token<'a>]) -> Directive<'a>
     ensures { directive result ≡ meaning.function name.now (tokens_seen tokens.now) }
 {

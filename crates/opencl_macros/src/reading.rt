@@ -505,7 +505,6 @@ fn first_of<'a>(tokens: &[Token<'a>]) -> Token<'a>
 }
 
 /// The first piece, and how many tokens behind its first one belong to it.
-
 fn take_piece<'a>(
     alloc: Global,
     s: &mut State<'a>,

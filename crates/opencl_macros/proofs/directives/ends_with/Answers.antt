@@ -1,4 +1,4 @@
-use Rattle.std.proofs.Common.{◌≡◌, ◌∙◌, sym, ap, drop}
+use Rattle.std.proofs.Common.{◌∙◌, sym, ap, drop}
 use Rattle.std.proofs.lemmas.List.{take_rest}
 use Rattle.opencl_tokens.specs.Spelling.{sign}
 use Rattle.opencl_macros.specs.Macros.{is_front}

@@ -90,7 +90,8 @@ defines s site name macro = cond (may_define s.table name) (with_entry s name (S
 abbrev pub is_constant : (name : List ℕ) → Bool
 is_constant name =
     bytes_eq name (codes "__OPENCL_VERSION__") || (bytes_eq name (codes "__OPENCL_C_VERSION__")
-    || (bytes_eq name (codes "__ENDIAN_LITTLE__") || (bytes_eq name (codes "CL_VERSION_1_0") || (bytes_eq name (codes "CL_VERSION_1_1") || bytes_eq name (codes "CL_VERSION_1_2")))))
+    || (bytes_eq name (codes "__ENDIAN_LITTLE__") || (bytes_eq name (codes "CL_VERSION_1_0")
+    || (bytes_eq name (codes "CL_VERSION_1_1") || bytes_eq name (codes "CL_VERSION_1_2")))))
 
 abbrev pub may_forget : Table → (name : List ℕ) → Bool
 may_forget table name = not (is_constant name) && (not (bytes_eq name (codes "defined") || is_left_out name) && nat_lt (length table) 4096)

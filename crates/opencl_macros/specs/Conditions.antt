@@ -1,5 +1,5 @@
 -- The expression of a condition, read from the left (C99 6.10.1, 6.6).
-use Rattle.std.specs.Prelude.{ℕ, zero, suc, ◌+◌, ◌^◌, List, [], ◌∷◌, take, drop, length, Bool, true, false, cond, not, nat_eq, nat_lt, bytes_eq, Option, Some, None, Result, Ok, Err, codes}
+use Rattle.std.specs.Prelude.{ℕ, zero, suc, ◌+◌, ◌^◌, List, [], ◌∷◌, take, drop, length, Bool, cond, not, ◌||◌, nat_eq, nat_lt, bytes_eq, Option, Some, None, Result, Ok, Err, codes}
 use Rattle.semantics.specs.Core.{Site}
 use Rattle.semantics.specs.Word as words
 use Rattle.opencl_tokens.specs.Faults.{Answered}
@@ -9,7 +9,8 @@ use Rattle.opencl_tokens.specs.Reading.{lexemes_of}
 use Rattle.opencl_tokens.specs.Signs as signs
 use Rattle.opencl_tokens.specs.Signs.{Sign}
 use Rattle.opencl_tokens.specs.Tokens.{TokenKind, Token, Name, Number, Character, Mark}
-use Rattle.opencl_macros.specs.Macros.{is_mark, on}
+use Rattle.opencl_macros.specs.Macros.{is_front, on}
+use Rattle.opencl_macros.specs.Compilers.{is_compilers}
 use Rattle.opencl_macros.specs.Operators.{Value, Binary, Times, Divided, Rest, Plus, Minus, ShiftLeft, ShiftRight, Less, Greater, LessEqual, GreaterEqual, Equal, NotEqual, And, Xor, Or, Both, Either, difference, on_two, binary, negated, choice, tightness}
 
 -- an `int` that is not below 0
@@ -38,10 +39,6 @@ Got = Result (Value × List Token) Site
 -- what reads a part that stands within
 abbrev pub Within : Type 0
 Within = Part → List Token → Got
-
-abbrev pub is_front : Sign → List Token → Bool
-is_front sign [] = false
-is_front sign (t ∷ ts) = is_mark sign t.kind
 
 abbrev pub behind : List Token → List Token
 behind tokens = drop 1 tokens
@@ -123,9 +120,10 @@ signed go site signs.Not tokens = negation go tokens
 signed go site signs.LeftParenthesis tokens = bracketed go site tokens
 signed go site sign tokens = Err site
 
--- a name that is left is 0, but `defined` that comes of a macro is left out (6.10.1p4)
+-- a name that is left is 0, but one of which a compiler may have a macro is left out, and `defined` that comes of a macro (6.10.1p4)
 abbrev pub operand_of : Within → Site → TokenKind → List Token → Got
-operand_of go site (Name name) tokens = cond (bytes_eq name (codes "defined")) (Err site) (Ok (Some 0, behind tokens))
+operand_of go site (Name name) tokens =
+    cond (bytes_eq name (codes "defined") || is_compilers name) (Err site) (Ok (Some 0, behind tokens))
 operand_of go site (Number spelling) tokens = Ok (literal (lexemes_of (take 1 tokens)), behind tokens)
 operand_of go site (Character spelling) tokens = Ok (literal (lexemes_of (take 1 tokens)), behind tokens)
 operand_of go site (Mark sign) tokens = signed go site sign (behind tokens)

@@ -1,9 +1,10 @@
 -- `defined` in a condition (C99 6.10.1p1): with its name it becomes 1 or 0, before macros are expanded (6.10.1p4).
-use Rattle.std.specs.Prelude.{ℕ, List, [], ◌∷◌, ◌++◌, Bool, true, false, cond, bytes_eq, Option, Some, None, Result, Ok, Err, codes}
+use Rattle.std.specs.Prelude.{ℕ, List, [], ◌∷◌, ◌++◌, Bool, true, false, cond, Option, Some, None, Result, Ok, Err, codes}
 use Rattle.semantics.specs.Core.{Site}
 use Rattle.opencl_tokens.specs.Signs.{LeftParenthesis, RightParenthesis}
 use Rattle.opencl_tokens.specs.Tokens.{TokenKind, Token, Name, Number}
-use Rattle.opencl_macros.specs.Macros.{Table, is_defined, is_mark, is_name, on}
+use Rattle.opencl_macros.specs.Macros.{Table, is_mark, is_name, on}
+use Rattle.opencl_macros.specs.Compilers.{whether_defined}
 
 -- what is due: nothing, a name or a `(`, a name in brackets, and a `)`
 pub data Due : Type 0 where
@@ -21,7 +22,7 @@ abbrev pub Asked : Type 0
 Asked = Result (Due × Option Token) Site
 
 abbrev pub question : Table → Site → (next : Due) → TokenKind → Asked
-question table site next (Name name) = Ok (next, Some (answer site (is_defined name table)))
+question table site next (Name name) = on (whether_defined table site name) (λ b. Ok (next, Some (answer site b)))
 question table site next kind = Err site
 
 abbrev pub asks : Table → Site → Due → Token → Asked

@@ -6,7 +6,8 @@ ghost use Rattle.opencl_macros.specs.Questions as meaning;
 ghost use Rattle.opencl_macros.specs.Seen.{table as table_seen, tokens_seen, Gives};
 ghost use Rattle.opencl_macros.specs.SeenQuestions.{asked, due as due_seen, maybe_token, tokens_of};
 
-use crate::macros::{Entry, is_defined, is_mark, is_name};
+use crate::compilers::whether_defined;
+use crate::macros::{Entry, is_mark, is_name};
 use crate::{MacroError, Token, TokenKind};
 use opencl_tokens::{Sign, Site};
 use std::alloc::Global;
@@ -37,6 +38,7 @@ fn answer(site: Site, holds: bool) -> Token<'static>
     }
 }
 
+#[tactic(auto, using(crate::proofs::Handing::handed))]
 fn question<'a>(
     entries: &[Entry<'_>],
     site: Site,
@@ -46,7 +48,10 @@ fn question<'a>(
     ensures { Gives asked result (meaning.question (table_seen entries.now) (site_of site) (due_seen next) (token_kind kind.entry)) }
 {
     match kind {
-        TokenKind::Name(name) => Ok((next, Some(answer(site, is_defined(name, entries))))),
+        TokenKind::Name(name) => {
+            let holds = whether_defined(entries, site, name)?;
+            Ok((next, Some(answer(site, holds))))
+        }
         _ => Err(MacroError::At(site)),
     }
 }

@@ -1,0 +1,38 @@
+-- Names of which a compiler may have a macro: a condition that depends on one that the text does not define is left out.
+use Rattle.std.specs.Prelude.{ℕ, List, [], ◌∷◌, take, Bool, true, false, cond, nat_eq, nat_le, ◌&&◌, ◌||◌, bytes_eq, Result, Ok, Err, codes}
+use Rattle.semantics.specs.Core.{Site}
+use Rattle.opencl_macros.specs.Macros.{Table, is_defined}
+
+-- names that are kept for macros of compilers: two underscores, or one and a capital letter (C99 6.10.8p4)
+abbrev pub is_reserved : (name : List ℕ) → Bool
+is_reserved [] = false
+is_reserved (a ∷ []) = false
+is_reserved (a ∷ b ∷ rest) = nat_eq a 95 && (nat_eq b 95 || (nat_le 65 b && nat_le b 90))
+
+-- macros of one beginning: of types (OpenCL 1.2, 6.2.4.2), of versions (6.10), of floats (6.12.2; `HALF_` in the extension of halves), of
+-- fences and images (6.12.8, 6.12.14)
+abbrev pub is_of_family : (name : List ℕ) → Bool
+is_of_family name =
+    bytes_eq (take 3 name) (codes "as_") || (bytes_eq (take 11 name) (codes "CL_VERSION_") || (bytes_eq (take 4 name) (codes "FLT_")
+    || (bytes_eq (take 4 name) (codes "DBL_") || (bytes_eq (take 5 name) (codes "HALF_") || (bytes_eq (take 2 name) (codes "M_")
+    || (bytes_eq (take 3 name) (codes "FP_") || bytes_eq (take 4 name) (codes "CLK_")))))))
+
+abbrev pub is_one_of : List (List ℕ) → (name : List ℕ) → Bool
+is_one_of [] name = false
+is_one_of (n ∷ ns) name = bytes_eq name n || is_one_of ns name
+
+-- macros of integers (OpenCL 1.2, 6.12.3), of floats (6.12.2), of kernels (6.10), of `long` in the embedded profile (10), and of C99 (7.16,
+-- 7.17)
+unfoldable pub header_names : List (List ℕ)
+header_names =
+    codes "CHAR_BIT" ∷ codes "CHAR_MAX" ∷ codes "CHAR_MIN" ∷ codes "SCHAR_MAX" ∷ codes "SCHAR_MIN" ∷ codes "UCHAR_MAX"
+    ∷ codes "SHRT_MAX" ∷ codes "SHRT_MIN" ∷ codes "USHRT_MAX" ∷ codes "INT_MAX" ∷ codes "INT_MIN" ∷ codes "UINT_MAX"
+    ∷ codes "LONG_MAX" ∷ codes "LONG_MIN" ∷ codes "ULONG_MAX" ∷ codes "MAXFLOAT" ∷ codes "HUGE_VALF" ∷ codes "HUGE_VAL"
+    ∷ codes "INFINITY" ∷ codes "NAN" ∷ codes "kernel_exec" ∷ codes "cles_khr_int64" ∷ codes "true" ∷ codes "false" ∷ codes "NULL" ∷ []
+
+abbrev pub is_compilers : (name : List ℕ) → Bool
+is_compilers name = is_reserved name || (is_of_family name || is_one_of header_names name)
+
+-- whether a name is defined (C99 6.10.1p1), where the text says so
+abbrev pub whether_defined : Table → Site → (name : List ℕ) → Result Bool Site
+whether_defined table site name = cond (is_defined name table) (Ok true) (cond (is_compilers name) (Err site) (Ok false))

@@ -1,0 +1,90 @@
+//! Names of which a compiler may have a macro.
+
+ghost use Rattle.std.specs.Prelude.{◌≡◌};
+ghost use Rattle.opencl_tokens.specs.Seen.{site as site_of};
+ghost use Rattle.opencl_macros.specs.Compilers as meaning;
+ghost use Rattle.opencl_macros.specs.Seen.{table, Gives};
+ghost use Rattle.opencl_macros.specs.SeenConditions.{same_flag};
+
+use crate::MacroError;
+use crate::macros::{Entry, is_defined};
+use opencl_tokens::Site;
+
+/// Two underscores, or one and a capital letter.
+fn is_reserved(name: &str) -> bool
+    ensures { result ≡ meaning.is_reserved name.now }
+{
+    match name.as_bytes() {
+        [first, second, ..] => *first == b'_'
+            && (*second == b'_' || 65 <= *second && *second <= 90),
+        _ => false,
+    }
+}
+
+/// Macros of one beginning.
+fn is_of_family(name: &str) -> bool
+    ensures { result ≡ meaning.is_of_family name.now }
+{
+    name.starts_with("as_")
+        || name.starts_with("CL_VERSION_")
+        || name.starts_with("FLT_")
+        || name.starts_with("DBL_")
+        || name.starts_with("HALF_")
+        || name.starts_with("M_")
+        || name.starts_with("FP_")
+        || name.starts_with("CLK_")
+}
+
+#[tactic(auto, unfolding(crate::specs::Compilers::header_names))]
+fn is_header_name(name: &str) -> bool
+    ensures { result ≡ meaning.is_one_of meaning.header_names name.now }
+{
+    matches!(
+        name,
+        "CHAR_BIT"
+            | "CHAR_MAX"
+            | "CHAR_MIN"
+            | "SCHAR_MAX"
+            | "SCHAR_MIN"
+            | "UCHAR_MAX"
+            | "SHRT_MAX"
+            | "SHRT_MIN"
+            | "USHRT_MAX"
+            | "INT_MAX"
+            | "INT_MIN"
+            | "UINT_MAX"
+            | "LONG_MAX"
+            | "LONG_MIN"
+            | "ULONG_MAX"
+            | "MAXFLOAT"
+            | "HUGE_VALF"
+            | "HUGE_VAL"
+            | "INFINITY"
+            | "NAN"
+            | "kernel_exec"
+            | "cles_khr_int64"
+            | "true"
+            | "false"
+            | "NULL"
+    )
+}
+
+/// A compiler may have a macro of that name.
+pub fn is_compilers(name: &str) -> bool
+    ensures { result ≡ meaning.is_compilers name.now }
+{
+    is_reserved(name) || is_of_family(name) || is_header_name(name)
+}
+
+/// Whether a name is defined, where the text says so.
+pub fn whether_defined(entries: &[Entry<'_>], site: Site, name: &str) -> Result<bool, MacroError>
+    ensures { Gives same_flag result (meaning.whether_defined (table entries.now) (site_of site) name.now) }
+{
+    if is_defined(name, entries) {
+        Ok(true)
+    } else if is_compilers(name) {
+        Err(MacroError::At(site))
+    } else {
+        Ok(false)
+    }
+}

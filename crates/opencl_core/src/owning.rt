@@ -255,7 +255,6 @@ fn begin_listed(
     }
 }
 
-#[tactic(auto, using(crate::proofs::Trees::lists))]
 fn begin_own(
     alloc: Global,
     own: Own,

@@ -7,5 +7,5 @@ use Rattle.opencl_core.proofs.rooms.add_components.Given as goal
 
 abbrev pub invariant-loop-place : goal.invariant-loop-place
 invariant-loop-place l =
-    components_added (site l.at) l.name l.range.0 l.range.1 (kind l.kind) (drop l.place-index l.places) (room l.room)
+    components_added (site l.at) l.name l.range.0 l.range.1 (kind l.kind) (drop l._place-index l.places) (room l.room)
     ≡ components_added (site l.at) l.name l.range.0 l.range.1 (kind l.kind) l.places (room l.initial.room)

@@ -8,4 +8,4 @@ use Rattle.opencl_values.proofs.vectors.made_behind.Given as goal
 abbrev pub invariant-loop-place : goal.invariant-loop-place
 invariant-loop-place l =
     made_behind (kind l.ids) (site l.at) (made l.made) (map term l.terms.items) (drop l.place-index l.places)
-    ≡ made_behind (kind l.ids) (site l.at) (made l.made) (map term l.so_far.items) l.places
+    ≡ made_behind (kind l.ids) (site l.at) (made l.made) (map term l.initial.terms.items) l.places

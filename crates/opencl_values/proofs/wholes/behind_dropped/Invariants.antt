@@ -7,4 +7,4 @@ use Rattle.opencl_values.proofs.wholes.behind_dropped.Given as goal
 abbrev pub invariant-loop-place : goal.invariant-loop-place
 invariant-loop-place l =
     behind_dropped (site l.at) (value l.whole) l.picked (drop l.place-index l.places) (term l.so_far)
-    ≡ behind_dropped (site l.at) (value l.whole) l.picked l.places (term l.of)
+    ≡ behind_dropped (site l.at) (value l.whole) l.picked l.places (term l.initial.so_far)

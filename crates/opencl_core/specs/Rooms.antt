@@ -136,7 +136,7 @@ with_range at name first last r = record r { names = with_variable name at first
 abbrev pub next_slots : Site → (count : ℕ) → Room → Checked ℕ
 next_slots at n r = when (nat_le (length r.slots + n) most_slots) TooMany at (length r.slots)
 
-abbrev pub component_added : Site → (name : List ℕ) → (first last : ℕ) → Kind → Room → Room
+unfoldable pub component_added : Site → (name : List ℕ) → (first last : ℕ) → Kind → Room → Room
 component_added at name first last k r = with_range at name first last (with_slot k r)
 
 abbrev pub components_added : Site → (name : List ℕ) → (first last : ℕ) → Kind → (places : List ℕ) → Room → Room

@@ -85,7 +85,7 @@ first_written FirstAbsent r = Ok r
 first_written (FirstDeclares d) r = write_declaration d r
 first_written (FirstEvaluates e) r = effect e r
 
-abbrev pub for_whole : Site → First → (test : Option Expression) → (body : (number : ℕ) → Room → Checked Room) → (update : Option Expression) → Room → Checked Room
+unfoldable pub for_whole : Site → First → (test : Option Expression) → (body : (number : ℕ) → Room → Checked Room) → (update : Option Expression) → Room → Checked Room
 for_whole at first test body update r =
     block (λ o. then (first_written first o) (loop_of at (maybe_test test) body (maybe_effect update))) r
 

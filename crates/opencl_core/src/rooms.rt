@@ -270,6 +270,7 @@ impl<'a> Room<'a> {
         }
     }
 
+    #[tactic(auto, unfolding(crate::specs::Rooms::component_added))]
     fn add_component(
         &mut self,
         alloc: Global,

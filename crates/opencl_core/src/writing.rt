@@ -427,6 +427,7 @@ pub struct ForHead<'a> {
 }
 
 #[cycle(writing)]
+#[tactic(auto, unfolding(crate::specs::Writing::for_whole))]
 fn for_whole<'a>(
     alloc: Global,
     head: ForHead<'a>,

@@ -25,22 +25,10 @@ unfolding write_statement
 write_statement-returns-in-Do t c =
     rw (ap statement c.in-Do.is ∙ seen_do c.in-Do.number c.in-Do.site c.in-Do.body c.in-Do.test) (first_of (search rules, grind (arith, common_steps)))
 
-first_try : goal.write_statement-returns-in-For
-unfolding write_statement
-first_try t c = rw (ap statement c.in-For.is ∙ seen_for c.in-For.number c.in-For.site c.in-For.first c.in-For.test c.in-For.update c.in-For.body) c.for_whole.ensures
-
-second_try : goal.write_statement-returns-in-For
-unfolding write_statement
-second_try t c = rw (ap statement c.in-For.is ∙ seen_for c.in-For.number c.in-For.site c.in-For.first c.in-For.test c.in-For.update c.in-For.body) (grind (arith, common_steps))
-
-third_try : goal.write_statement-returns-in-For
-unfolding write_statement
-third_try t c = rw (ap statement c.in-For.is ∙ seen_for c.in-For.number c.in-For.site c.in-For.first c.in-For.test c.in-For.update c.in-For.body) (search (arith))
-
 pub write_statement-returns-in-For : goal.write_statement-returns-in-For
 unfolding write_statement
 write_statement-returns-in-For t c =
-    rw (ap statement c.in-For.is ∙ seen_for c.in-For.number c.in-For.site c.in-For.first c.in-For.test c.in-For.update c.in-For.body) (search (rules, c.for_whole.ensures))
+    rw (ap statement c.in-For.is ∙ seen_for c.in-For.number c.in-For.site c.in-For.first c.in-For.test c.in-For.update c.in-For.body) (first_of (search rules, grind (arith, common_steps)))
 
 pub write_statement-returns-in-Block : goal.write_statement-returns-in-Block
 unfolding write_statement

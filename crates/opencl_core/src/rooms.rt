@@ -373,8 +373,11 @@ fn add_components(
 ) -> Result<(), AllocError>
     ensures { OnOk result (seen.room room.new ≡ rules.components_added (site at) name.now range.0 range.1 (kind_seen kind) places.now (seen.room room.old)) }
 {
-    for _place in places {
-        room.add_component(alloc, at, name, range, kind)?;
+    match places {
+        [] => Ok(()),
+        [_, rest @ ..] => {
+            room.add_component(alloc, at, name, range, kind)?;
+            add_components(alloc, at, name, range, kind, rest, room)
+        }
     }
-    Ok(())
 }

@@ -9,10 +9,11 @@ use Rattle.opencl_tree.specs.Tree as tree
 use Rattle.opencl_tree.specs.View.{expression, expressions}
 use Rattle.opencl_tree.specs.declared.tree.Expr.{Expr}
 use Rattle.opencl_values.specs.Calls.{argument_in, dimension_of}
-use Rattle.opencl_values.specs.Faults.{WrongType, refused}
+use Rattle.opencl_values.specs.Faults.{WrongType, refused, then}
+use Rattle.opencl_values.specs.Reads.{vector_at}
 use Rattle.opencl_values.specs.Singles.{as_scalar}
 use Rattle.opencl_values.specs.Scope.{Names}
-use Rattle.opencl_values.specs.Values.{vector_read}
+use Rattle.opencl_values.specs.Values.{value_of, part_of, vector_read}
 use Rattle.opencl_values.specs.VectorCalls.{wide_result}
 use Rattle.opencl_values.specs.View.{single, singles_seen, values}
 use Rattle.opencl_values.specs.Widened.{Wide}
@@ -59,4 +60,13 @@ wide_result-other ids w site [] h = refl
 wide_result-other ids w site (v ∷ []) h = absurd (h refl)
 wide_result-other ids w site (v ∷ u ∷ vs) h = refl
 
-pub ruleset other_arguments = (vector_read-other, wide_result-other)
+pub vector_read-two : (names : Names) (site : core.Site) (n : ℕ) (es : List Expr) (d : Expr) → length es ≡ 2 → vector_read names site n (expressions es) ≡ then (value_of names (expression (get_or es 0 d))) (λ v. then (part_of names site (expression (get_or es 1 d))) (vector_at names.ids site n v))
+unfolding vector_read
+vector_read-two names site n [] d h = absurd (omega arith)
+vector_read-two names site n (e ∷ []) d h = absurd (omega arith)
+vector_read-two names site n (e ∷ x ∷ []) d h = refl
+vector_read-two names site n (e ∷ x ∷ y ∷ es) d h = absurd (omega arith)
+
+pub ruleset read_arguments = (vector_read-other, vector_read-two)
+
+pub ruleset other_arguments = (wide_result-other)

@@ -1,12 +1,12 @@
 -- Pointers: arrays with an offset (C99 6.5.2.1, 6.5.3.2 and 6.5.6). An offset is an `int`, so that none wraps, and an access through a pointer
 -- has to lie in the array that it points into.
-use Rattle.std.specs.Prelude.{ℕ, List, [], ◌∷◌, Bool, true, false, cond, ◌||◌, Option, Some, None, Ok}
+use Rattle.std.specs.Prelude.{ℕ, List, [], ◌∷◌, Bool, true, false, cond, not, ◌||◌, ◌&&◌, Option, Some, None, Ok}
 use Rattle.semantics.specs.Word as word
 use Rattle.semantics.specs.Word.{Operator, Add, Subtract}
 use Rattle.semantics.specs.Core.{Site, Term, Binary}
 use Rattle.texts.specs.Surface.{InfixSign, Arithmetic}
 use Rattle.opencl_tree.specs.Types.{Qualifiers}
-use Rattle.opencl_tree.specs.Tree.{Expression, Name, Index, Prefix, AddressOf, Cast, Infix}
+use Rattle.opencl_tree.specs.Tree.{PrefixSign, Expression, Name, Index, Prefix, Indirection, AddressOf, Cast, Infix}
 use Rattle.opencl_terms.specs.Types.{Scalar, Int, Value, is_float}
 use Rattle.opencl_terms.specs.Conversions.{int}
 use Rattle.opencl_values.specs.Faults.{Checked, WrongType, LeftOut, Pointer, refused, then, when}
@@ -39,6 +39,33 @@ is_pointer names (Infix site sign left right) = is_moved sign (is_pointer names 
 is_pointer names (Prefix site AddressOf e) = true
 is_pointer names (Cast site to e) = is_starred to.stars
 is_pointer names e = false
+
+-- whether a sign is `*`, and whether it is `&`
+abbrev pub is_indirection : PrefixSign → Bool
+is_indirection Indirection = true
+is_indirection sign = false
+
+abbrev pub is_address : PrefixSign → Bool
+is_address AddressOf = true
+is_address sign = false
+
+-- the operator that moves a pointer
+abbrev pub moving_by : Operator → Option Operator
+moving_by Add = Some Add
+moving_by Subtract = Some Subtract
+moving_by op = None
+
+abbrev pub moving : InfixSign → Option Operator
+moving (Arithmetic op) = moving_by op
+moving sign = None
+
+-- whether the pointer is the right operand (6.5.6p2)
+abbrev pub is_add : Operator → Bool
+is_add Add = true
+is_add op = false
+
+abbrev pub is_behind : Names → Operator → (left : Expression) → Bool
+is_behind names op left = is_add op && not (is_pointer names left)
 
 -- a pointer to an element: one dimension at most is left
 abbrev pub is_flat_at : (lengths : List ℕ) → Option Term → Bool

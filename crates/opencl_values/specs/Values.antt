@@ -1,15 +1,15 @@
 -- Which term of the core an expression is, among these names (C99 6.5; OpenCL 1.2, 6.3 and 6.12). The value of one with effects is that which
 -- was written out before.
 use Rattle.std.specs.Prelude.{ℕ, pos, List, [], ◌∷◌, ◌++◌, cond, Option, Some, None, Ok}
-use Rattle.semantics.specs.Word.{Kind, Int, Add, Subtract}
+use Rattle.semantics.specs.Word.{Kind, Int, Add}
 use Rattle.semantics.specs.Core.{Site, Variable, Literal}
-use Rattle.opencl_tree.specs.Tree.{Expression, Integer, Real, Name, Call, Index, Member, Prefix, Indirection, AddressOf, Step, Cast, Vector, Infix, Conditional, Assign, Comma, SizeofType, SizeofOf, Expressions, nothing, also}
+use Rattle.opencl_tree.specs.Tree.{Expression, Integer, Real, Name, Call, Index, Member, Prefix, Step, Cast, Vector, Infix, Conditional, Assign, Comma, SizeofType, SizeofOf, Expressions, nothing, also}
 use Rattle.opencl_tree.specs.Types.{TypeName}
 use Rattle.opencl_terms.specs.Types.{Scalar, Size, ValueType, Value, is_vector}
 use Rattle.opencl_values.specs.Faults as faults
 use Rattle.opencl_values.specs.Faults.{Checked, UnknownName, WrongType, LeftOut, Pointer, Effect, Outside, refused, then, found}
 use Rattle.opencl_values.specs.Scope.{Meaning, VariableOf, ArrayOf, OwnOf, PointerOf, NumberOf, TypeOf, UnreadOf, Names, Drawn, meaning_of, drawn_at}
-use Rattle.texts.specs.Surface.{InfixSign, Arithmetic, LogicalAnd, LogicalOr}
+use Rattle.texts.specs.Surface.{InfixSign, LogicalAnd, LogicalOr}
 use Rattle.opencl_values.specs.Singles.{Single, single}
 use Rattle.opencl_values.specs.Wholes.{whole, only}
 use Rattle.opencl_values.specs.Vectors.{Kept, vector_made, prefix_of, infix_of, conditional_of, converted_to, literal_of}
@@ -20,7 +20,7 @@ use Rattle.opencl_values.specs.Elements.{Part, Element, part_meant}
 use Rattle.opencl_values.specs.Reads.{indexed_by, element_at, element_value, vector_at}
 use Rattle.opencl_values.specs.Widened.{Wide, wide_named, read_width}
 use Rattle.opencl_values.specs.Functions.{Form, form_named, construct_called}
-use Rattle.opencl_values.specs.Pointers.{is_pointer, shifted_by, first_element}
+use Rattle.opencl_values.specs.Pointers.{is_indirection, is_address, moving, is_behind, shifted_by, first_element}
 use Rattle.opencl_values.specs.VectorCalls.{called, wide_result}
 
 -- a variable has a slot for each component, one behind the other
@@ -96,8 +96,9 @@ unfoldable mutual
   value_of names (Index site of index) =
       then (part_of names site of) (λ p. then (value_of names index) (element_value site p))
   value_of names (Member site of name) = then (value_of names of) (λ v. member_of names.ids site v name)
-  value_of names (Prefix site Indirection e) = then (part_of names site e) (λ p. element_value site p first_element)
-  value_of names (Prefix site sign e) = then (value_of names e) (prefix_of names.ids sign site)
+  value_of names (Prefix site sign e) =
+      cond (is_indirection sign) (then (part_of names site e) (λ p. element_value site p first_element))
+      (then (value_of names e) (prefix_of names.ids sign site))
   value_of names (Step site side sign e) = with_effect names site
   value_of names (Cast site to e) =
       then (type_of_name names.visible to site) (λ t. then (value_of names e) (converted_to names.ids site t))
@@ -128,15 +129,19 @@ unfoldable mutual
   part_of names bracket (Name site name) = then (found (meaning_of names.visible name) UnknownName site) (part_meant site)
   part_of names bracket (Index site of index) =
       then (part_of names site of) (λ p. then (value_of names index) (indexed_by site p))
-  part_of names bracket (Infix site (Arithmetic Add) left right) =
-      cond (is_pointer names left) (then (part_of names site left) (λ p. then (value_of names right) (shifted_by site Add p)))
-      (then (value_of names left) (λ i. then (part_of names site right) (λ p. shifted_by site Add p i)))
-  part_of names bracket (Infix site (Arithmetic Subtract) left right) =
-      then (part_of names site left) (λ p. then (value_of names right) (shifted_by site Subtract p))
-  part_of names bracket (Prefix site AddressOf (Index at of index)) =
-      then (part_of names at of) (λ p. then (value_of names index) (shifted_by site Add p))
-  part_of names bracket (Prefix site AddressOf (Prefix at Indirection e)) = part_of names at e
+  part_of names bracket (Infix site sign left right) =
+      then (found (moving sign) (LeftOut Pointer) bracket) (λ op.
+      cond (is_behind names op left) (then (part_of names site right) (λ p. then (value_of names left) (shifted_by site op p)))
+      (then (part_of names site left) (λ p. then (value_of names right) (shifted_by site op p))))
+  part_of names bracket (Prefix site sign e) = cond (is_address sign) (addressed names bracket site e) (refused (LeftOut Pointer) bracket)
   part_of names bracket e = refused (LeftOut Pointer) bracket
+
+  -- a pointer to what an operand is (6.5.3.2)
+  pub addressed : Names → (bracket sign : Site) → Expression → Checked Part
+  addressed names bracket sign (Index at of index) =
+      then (part_of names at of) (λ p. then (value_of names index) (shifted_by sign Add p))
+  addressed names bracket sign (Prefix at s e) = cond (is_indirection s) (part_of names at e) (refused (LeftOut Pointer) bracket)
+  addressed names bracket sign e = refused (LeftOut Pointer) bracket
 
 -- the element that a pointer points to
 unfoldable pub pointed_to : Names → Site → Expression → Checked Element

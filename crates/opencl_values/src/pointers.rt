@@ -1,8 +1,9 @@
 //! Pointers: arrays with an offset.
 
 ghost use Rattle.std.specs.Prelude.{◌≡◌, IfOk, map};
+ghost use Rattle.std.specs.Option.{option_map};
 ghost use Rattle.core_code.specs.View.{operator as operator_seen, site, term};
-ghost use Rattle.opencl_tree.specs.View.{expression, qualifiers as qualifiers_seen};
+ghost use Rattle.opencl_tree.specs.View.{expression, prefix_sign, qualifiers as qualifiers_seen};
 ghost use Rattle.opencl_values.specs.ElementsView.{maybe_term, part as part_seen};
 ghost use Rattle.opencl_values.specs.Pointers as rules;
 ghost use Rattle.opencl_values.specs.View.{meaning_in, names as names_seen, single, value as value_seen, Gives};
@@ -64,6 +65,53 @@ pub fn is_pointer(names: Names, of: &Expr) -> bool
         Expr::Cast { to, .. } => !to.stars.is_empty(),
         _ => false,
     }
+}
+
+/// Whether a sign is `*`.
+pub fn is_indirection(sign: PrefixSign) -> bool
+    ensures { result ≡ rules.is_indirection (prefix_sign sign) }
+{
+    matches!(sign, PrefixSign::Indirection)
+}
+
+/// Whether a sign is `&`.
+pub fn is_address(sign: PrefixSign) -> bool
+    ensures { result ≡ rules.is_address (prefix_sign sign) }
+{
+    matches!(sign, PrefixSign::AddressOf)
+}
+
+fn moving_by(operator: Operator) -> Option<Operator>
+    ensures { option_map operator_seen result ≡ rules.moving_by (operator_seen operator) }
+{
+    match operator {
+        Operator::Add => Some(Operator::Add),
+        Operator::Subtract => Some(Operator::Subtract),
+        _ => None,
+    }
+}
+
+/// The operator that moves a pointer.
+pub fn moving(sign: InfixSign) -> Option<Operator>
+    ensures { option_map operator_seen result ≡ rules.moving (infix_sign sign) }
+{
+    match sign {
+        InfixSign::Arithmetic(operator) => moving_by(operator),
+        _ => None,
+    }
+}
+
+fn is_add(operator: Operator) -> bool
+    ensures { result ≡ rules.is_add (operator_seen operator) }
+{
+    matches!(operator, Operator::Add)
+}
+
+/// Whether the pointer is the right operand of an operator.
+pub fn is_behind(names: Names, operator: Operator, left: &Expr) -> bool
+    ensures { result ≡ rules.is_behind (names_seen names.entry) (operator_seen operator) (expression left.now) }
+{
+    is_add(operator) && !is_pointer(names, left)
 }
 
 fn is_flat(of: &Part) -> bool

@@ -11,7 +11,6 @@ ghost use Rattle.opencl_values.specs.ElementsView.{element as element_seen, part
 ghost use Rattle.opencl_values.specs.Faults as faults;
 ghost use Rattle.opencl_values.specs.FunctionsView.{form as form_seen};
 ghost use Rattle.opencl_values.specs.Names as types;
-ghost use Rattle.opencl_values.specs.Reads as reads;
 ghost use Rattle.opencl_values.specs.Scope as scope;
 ghost use Rattle.opencl_values.specs.Constants as constants;
 ghost use Rattle.opencl_values.specs.VectorCalls as vector_calls;
@@ -30,7 +29,9 @@ use crate::error::{Construct, Fault, ValueError, refused};
 use crate::functions::{Form, construct_called, form_named};
 use crate::members::member_of;
 use crate::names::{bytes_of, type_of_name};
-use crate::pointers::{first_element, is_pointer, shifted_by};
+use crate::pointers::{
+    first_element, is_address, is_behind, is_indirection, moving, shifted_by,
+};
 use crate::reads::{element_at, element_value, indexed_by, vector_at};
 use crate::scope::{Binding, Drawn, Meaning, Names, drawn_at, meaning_of};
 use crate::singles::Single;
@@ -43,7 +44,7 @@ use crate::widened::{Wide, read_width, wide_named};
 use core_code::tree::{Function, Operator, Site, Term};
 use core_pieces::pieces::literal;
 use opencl_terms::scalars::{Scalar, ValueType};
-use opencl_tree::tree::{Expr, PrefixSign};
+use opencl_tree::tree::Expr;
 use opencl_tree::types::TypeName;
 use std::alloc::{AllocError, Global};
 use syntax::tree::InfixSign;
@@ -266,25 +267,8 @@ fn wide_called(
     wide_result(alloc, names.ids, wide, at, values.as_slice())
 }
 
-// A vector of elements, by a number of vectors and a pointer.
 #[cycle(values)]
-fn read_at(
-    alloc: Global,
-    names: Names,
-    at: Site,
-    width: u32,
-    by: &Expr,
-    of: &Expr,
-) -> Result<Value, ValueError>
-    ensures { Gives value_seen result (faults.then (rules.value_of (names_seen names.entry) (expression by.now)) (λ v. faults.then (rules.part_of (names_seen names.entry) (site at) (expression of.now)) (reads.vector_at (kind_seen names.entry.ids) (site at) width v))) }
-{
-    let by = value_of(alloc, names, by)?;
-    let part = part_of(alloc, names, at, of)?;
-    vector_at(alloc, names.ids, at, width, by, part)
-}
-
-#[cycle(values)]
-#[tactic(auto, using(crate::proofs::Arguments::other_arguments), unfolding(crate::specs::Values::vector_read))]
+#[tactic(auto, using(crate::proofs::Arguments::read_arguments))]
 fn vector_read(
     alloc: Global,
     names: Names,
@@ -295,7 +279,11 @@ fn vector_read(
     ensures { Gives value_seen result (rules.vector_read (names_seen names.entry) (site at) width (expressions arguments.now)) }
 {
     match arguments {
-        [by, of] => read_at(alloc, names, at, width, by, of),
+        [by, of] => {
+            let by = value_of(alloc, names, by)?;
+            let part = part_of(alloc, names, at, of)?;
+            vector_at(alloc, names.ids, at, width, by, part)
+        }
         _ => refused(Fault::WrongType, at),
     }
 }
@@ -353,46 +341,26 @@ pub fn part_of<'a>(
             sign,
             left,
             right,
-        } => moved_pointer(alloc, names, bracket, *sign, *site, left, right),
-        Expr::Prefix {
-            site,
-            sign: PrefixSign::AddressOf,
-            of,
-        } => address_of(alloc, names, bracket, *site, of),
-        _ => refused(Fault::LeftOut(Construct::Pointer), bracket),
-    }
-}
-
-// The sum or the difference of a pointer and a number.
-#[cycle(values)]
-#[tactic(auto, unfolding(crate::specs::Values::part_of))]
-fn moved_pointer<'a>(
-    alloc: Global,
-    names: Names<'a>,
-    bracket: Site,
-    sign: InfixSign,
-    at: Site,
-    left: &Expr,
-    right: &Expr,
-) -> Result<Part<'a>, ValueError>
-    ensures { Gives part_seen result (rules.part_of (names_seen names.entry) (site bracket) (tree.Infix (site at) (infix_sign sign) (expression left.now) (expression right.now))) }
-{
-    match sign {
-        InfixSign::Arithmetic(Operator::Add) => {
-            if is_pointer(names, left) {
-                let pointer = part_of(alloc, names, at, left)?;
-                let by = value_of(alloc, names, right)?;
-                shifted_by(alloc, at, Operator::Add, pointer, by)
-            } else {
+        } => {
+            let Some(operator) = moving(*sign) else {
+                return refused(Fault::LeftOut(Construct::Pointer), bracket);
+            };
+            if is_behind(names, operator, left) {
+                let pointer = part_of(alloc, names, *site, right)?;
                 let by = value_of(alloc, names, left)?;
-                let pointer = part_of(alloc, names, at, right)?;
-                shifted_by(alloc, at, Operator::Add, pointer, by)
+                shifted_by(alloc, *site, operator, pointer, by)
+            } else {
+                let pointer = part_of(alloc, names, *site, left)?;
+                let by = value_of(alloc, names, right)?;
+                shifted_by(alloc, *site, operator, pointer, by)
             }
         }
-        InfixSign::Arithmetic(Operator::Subtract) => {
-            let pointer = part_of(alloc, names, at, left)?;
-            let by = value_of(alloc, names, right)?;
-            shifted_by(alloc, at, Operator::Subtract, pointer, by)
+        Expr::Prefix { site, sign, of } => {
+            if is_address(*sign) {
+                addressed(alloc, names, bracket, *site, of)
+            } else {
+                refused(Fault::LeftOut(Construct::Pointer), bracket)
+            }
         }
         _ => refused(Fault::LeftOut(Construct::Pointer), bracket),
     }
@@ -400,15 +368,15 @@ fn moved_pointer<'a>(
 
 // A pointer to what an operand is (C99 6.5.3.2).
 #[cycle(values)]
-#[tactic(auto, unfolding(crate::specs::Values::part_of))]
-fn address_of<'a>(
+#[tactic(auto, unfolding(crate::specs::Values::addressed))]
+fn addressed<'a>(
     alloc: Global,
     names: Names<'a>,
     bracket: Site,
     sign_site: Site,
     of: &Expr,
 ) -> Result<Part<'a>, ValueError>
-    ensures { Gives part_seen result (rules.part_of (names_seen names.entry) (site bracket) (tree.Prefix (site sign_site) tree.AddressOf (expression of.now))) }
+    ensures { Gives part_seen result (rules.addressed (names_seen names.entry) (site bracket) (site sign_site) (expression of.now)) }
 {
     match of {
         Expr::Index { site, of, index } => {
@@ -416,11 +384,13 @@ fn address_of<'a>(
             let by = value_of(alloc, names, index)?;
             shifted_by(alloc, sign_site, Operator::Add, pointer, by)
         }
-        Expr::Prefix {
-            site,
-            sign: PrefixSign::Indirection,
-            of,
-        } => part_of(alloc, names, *site, of),
+        Expr::Prefix { site, sign, of } => {
+            if is_indirection(*sign) {
+                part_of(alloc, names, *site, of)
+            } else {
+                refused(Fault::LeftOut(Construct::Pointer), bracket)
+            }
+        }
         _ => refused(Fault::LeftOut(Construct::Pointer), bracket),
     }
 }
@@ -453,17 +423,14 @@ pub fn value_of(alloc: Global, names: Names, of: &Expr) -> Result<Value, ValueEr
         Expr::Step { site, .. } | Expr::Assign { site, .. } | Expr::Comma { site, .. } => {
             with_effect(alloc, names, *site)
         }
-        Expr::Prefix {
-            site,
-            sign: PrefixSign::Indirection,
-            of,
-        } => {
-            let pointer = part_of(alloc, names, *site, of)?;
-            element_value(alloc, *site, pointer, first_element(alloc)?)
-        }
         Expr::Prefix { site, sign, of } => {
-            let of = value_of(alloc, names, of)?;
-            prefix_of(alloc, names.ids, *sign, *site, of)
+            if is_indirection(*sign) {
+                let pointer = part_of(alloc, names, *site, of)?;
+                element_value(alloc, *site, pointer, first_element(alloc)?)
+            } else {
+                let of = value_of(alloc, names, of)?;
+                prefix_of(alloc, names.ids, *sign, *site, of)
+            }
         }
         Expr::Cast { site, to, of } => {
             let to = type_of_name(names.visible, to, *site)?;

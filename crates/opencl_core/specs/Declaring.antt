@@ -1,20 +1,27 @@
 -- Declarations in blocks (C99 6.7; OpenCL 1.2, 6.5), and what local arrays take.
-use Rattle.std.specs.Prelude.{ℕ, ◌+◌, ◌*◌, List, [], ◌∷◌, ◌++◌, length, Bool, true, false, cond, not, ◌||◌, ◌&&◌, nat_eq, nat_le, nat_lt, Option, None, Some, Ok}
+use Rattle.std.specs.Prelude.{ℕ, zero, suc, ◌+◌, ◌-◌, ◌*◌, pos, List, [], ◌∷◌, ◌++◌, length, Bool, true, false, cond, not, ◌||◌, ◌&&◌, nat_eq, nat_le, nat_lt, Option, None, Some, is_some, Ok}
 use Rattle.semantics.specs.Core as core
-use Rattle.semantics.specs.Core.{Site}
-use Rattle.semantics.specs.Launch.{LocalArray}
-use Rattle.kernel_names.specs.NameMap.{with_array}
+use Rattle.semantics.specs.Word as word
+use Rattle.semantics.specs.Word.{Kind}
+use Rattle.semantics.specs.Core.{Site, Array}
+use Rattle.semantics.specs.Launch.{LocalArray, Three}
+use Rattle.kernel_names.specs.NameMap.{with_array, Other}
 use Rattle.opencl_tree.specs.Types.{Space, Global, Local, Constant, Private, Qualifiers}
-use Rattle.opencl_tree.specs.Tree.{Expression, Initial, Absent, Given, Listed, Declarator, Declaration}
-use Rattle.opencl_terms.specs.Types.{Scalar, Boolean, Size, ValueType, stored_kind}
+use Rattle.opencl_tree.specs.Tree.{Expression, Initial, Absent, Given, Listed, Initials, no_more, and_then, Declarator, Declaration}
+use Rattle.opencl_terms.specs.Types.{Scalar, Boolean, Size, ValueType, Value, kind_of, stored_kind, is_vector}
+use Rattle.opencl_terms.specs.Conversions.{int, uint, stored}
 use Rattle.opencl_values.specs.Faults.{Checked, WrongType, TooMany, LeftOut, Pointer, PrivateArray, InitialList, LocalScalar, ConstantVariable, refused, then, when, found}
-use Rattle.opencl_values.specs.Scope.{ArrayOf, TypeOf}
+use Rattle.opencl_values.specs.Scope.{Meaning, ArrayOf, OwnOf, PointerOf, TypeOf}
+use Rattle.opencl_values.specs.Elements.{Part, in_row}
 use Rattle.opencl_values.specs.Singles.{as_scalar}
-use Rattle.opencl_values.specs.Values.{value_of}
-use Rattle.opencl_values.specs.Names.{type_of_base, scalar_in}
+use Rattle.opencl_values.specs.Wholes.{only, places, words, is_same_type}
+use Rattle.opencl_values.specs.Vectors.{converted_to}
+use Rattle.opencl_values.specs.Values.{value_of, part_of}
+use Rattle.opencl_values.specs.Names.{type_of_base}
 use Rattle.opencl_core.specs.Sites.{begin_of}
 use Rattle.opencl_core.specs.Constants.{constant_of}
-use Rattle.opencl_core.specs.Rooms.{Room, set, next_slot, declared, variable_declared}
+use Rattle.opencl_core.specs.Rooms.{Room, known, write, set, next_slot, next_slots, declared, variable_declared, with_slot, with_range, not_ended}
+use Rattle.opencl_core.specs.Components.{set_picked}
 
 -- buffers and local arrays together
 abbrev pub most_arrays : ℕ
@@ -32,7 +39,7 @@ has_elements s = true
 
 -- the scalar of elements in memory
 abbrev pub element_of_type : Site → ValueType → Checked Scalar
-element_of_type at t = then (scalar_in at t) (λ s. when (has_elements s) WrongType at s)
+element_of_type at t = when (has_elements t.scalar) WrongType at t.scalar
 
 abbrev pub has_place : Room → Bool
 has_place r = nat_lt (length r.buffers + length r.arrays) most_arrays
@@ -62,7 +69,8 @@ local_declared at name a r =
 
 -- an array's length is a number of the text (C99 6.7.5.2; OpenCL 1.2, 6.9 d)
 abbrev pub number_of : Expression → Room → Checked ℕ
-number_of e r = then (value_of r.ids r.visible e) (λ v. found (constant_of v.term) WrongType (begin_of e))
+number_of e r =
+    then (value_of (known r) e) (λ v. then (only (begin_of e) v) (λ s. found (constant_of s.term) WrongType (begin_of e)))
 
 abbrev pub length_of : Site → Option Expression → Room → Checked ℕ
 length_of at None r = refused WrongType at
@@ -94,7 +102,7 @@ begins_with_nothing i = false
 
 -- local variables begin with nothing (OpenCL 1.2, 6.5.2)
 abbrev pub local_with : Shared → Lengths → LocalShape
-local_with c ns = record { type = c.type; count = ns.product; lengths = ns.all; is_constant = c.qualifiers.constant }
+local_with c ns = record { type = c.type; count = ns.product * words c.type.width; lengths = ns.all; is_constant = c.qualifiers.constant }
 
 abbrev pub local_of : Shared → Declarator → Room → Checked LocalShape
 local_of c d r =
@@ -107,21 +115,174 @@ abbrev pub declare_local_variable : Shared → Declarator → List (Option Expre
 declare_local_variable c d ns r = cond (nat_eq (length ns) 0) (refused (LeftOut LocalScalar) d.site) (declare_local c d r)
 
 -- a value is typed before the name is visible (C99 6.2.1p7)
-abbrev pub declare_set : Shared → Declarator → Scalar → Expression → Room → Checked Room
-declare_set c d s e r =
-    then (value_of r.ids r.visible e) (λ v.
-    then (next_slot d.site r) (λ slot.
-    then (set slot (as_scalar r.ids s d.site v) d.site r) (λ w.
-    variable_declared d.site d.name c.type c.qualifiers.constant w)))
+abbrev pub set_first : Shared → Declarator → Value → Room → Checked Room
+set_first c d v r = then (next_slots d.site c.type.width r) (λ slot. set_picked d.site slot v 0 (places c.type.width) r)
+
+abbrev pub first_value : Shared → Declarator → Expression → Room → Checked Value
+first_value c d e r = then (value_of (known r) e) (converted_to r.ids d.site c.type)
+
+abbrev pub declare_set : Shared → Declarator → Expression → Room → Checked Room
+declare_set c d e r =
+    then (first_value c d e r) (λ v. then (set_first c d v r) (λ w. variable_declared d.site d.name c.type c.qualifiers.constant w))
 
 abbrev pub declare_private : Shared → Declarator → Initial → Room → Checked Room
-declare_private c d Absent r = then (scalar_in d.site c.type) (λ s. variable_declared d.site d.name c.type c.qualifiers.constant r)
-declare_private c d (Given e) r = then (scalar_in d.site c.type) (λ s. declare_set c d s e r)
+declare_private c d Absent r = variable_declared d.site d.name c.type c.qualifiers.constant r
+declare_private c d (Given e) r = declare_set c d e r
 declare_private c d (Listed at is) r = refused (LeftOut InitialList) at
 
+-- A private array is a row of a local array that has one for each item of a group, so no two items have elements in common. Like a local
+-- array it begins with the launch's fill word
+abbrev pub local_id : (ids : Kind) → (dimension : ℕ) → core.Term
+local_id ids d = core.Id ids core.LocalId d
+
+abbrev pub next_digit : Site → (high : core.Term) → (length : ℕ) → (low : core.Term) → core.Term
+next_digit at high n low = core.Binary word.Add word.Uint at (core.Binary word.Multiply word.Uint at high (uint n)) low
+
+-- an item's number in its group
+abbrev pub own_row : (ids : Kind) → Three ℕ → Site → core.Term
+own_row ids s at = next_digit at (next_digit at (local_id ids 2) s.y (local_id ids 1)) s.x (local_id ids 0)
+
+abbrev pub own_of : (number : ℕ) → Shared → Declarator → Lengths → Room → Meaning
+own_of n c d ns r = OwnOf (record { space = core.Local; number = n }) c.type ns.all c.qualifiers.constant (own_row r.ids r.sizes d.site)
+
+abbrev pub times : Site → (a b : ℕ) → Checked ℕ
+times at a b = when (nat_le (a * b) most_elements) TooMany at (a * b)
+
+-- how many elements all items of a group have, where each has so many
+abbrev pub all_rows : Site → (count : ℕ) → Three ℕ → Checked ℕ
+all_rows at n s = then (times at n s.x) (λ a. then (times at a s.y) (λ b. times at b s.z))
+
+-- one that begins with nothing, or with a list; it has one dimension then, and elements of one component
+pub record Own : Type 0 where
+  pub site : Site
+  pub number : ℕ
+  pub scalar : Scalar
+  pub is_vector : Bool
+  pub length : ℕ
+
+abbrev pub own_counted : Shared → Declarator → Lengths → Scalar → (count : ℕ) → Room → Checked (Own × Room)
+own_counted c d ns s count r =
+    then (next_array d.site count r) (λ n. then (declared d.site d.name (own_of n c d ns r) r) (λ o.
+    Ok (record { site = d.site; number = n; scalar = s; is_vector = is_vector c.type; length = ns.product }, kept d.site d.name (record { kind = stored_kind s; length = count }) o)))
+
+abbrev pub own_declared : Shared → Declarator → Lengths → Room → Checked (Own × Room)
+own_declared c d ns r =
+    then (element_of_type d.site c.type) (λ s. then (times d.site ns.product (words c.type.width)) (λ n.
+    then (all_rows d.site n r.sizes) (λ count. own_counted c d ns s count r)))
+
+-- the element behind which so many are left
+abbrev pub own_index : Own → (left : ℕ) → Room → core.Term
+own_index o left r = in_row o.site (own_row r.ids r.sizes o.site) o.length (uint (o.length - left))
+
+abbrev pub own_store : Own → (left : ℕ) → core.Term → Room → Checked Room
+own_store o left t r =
+    write (λ k. core.Store k (record { space = core.Local; number = o.number }) o.site (own_index o left r) (stored o.scalar o.site t)) o.site Other r
+
+abbrev pub begin_with : Own → (left : ℕ) → Expression → Room → Checked Room
+begin_with o left e r =
+    then (value_of (known r) e) (λ v. then (only o.site v) (λ s. own_store o left (as_scalar r.ids o.scalar o.site s) r))
+
+-- what a list leaves out is 0 (C99 6.7.8p21)
+abbrev pub begin_with_zero : Own → (left : ℕ) → Room → Checked Room
+begin_with_zero o left r = own_store o left (core.Literal (kind_of r.ids o.scalar) (pos 0)) r
+
+unfoldable pub begin_with_zeros : Own → (left : ℕ) → Room → Checked Room
+begin_with_zeros o zero r = Ok r
+begin_with_zeros o (suc left) r = then (begin_with_zero o (suc left) r) (begin_with_zeros o left)
+
+unfoldable pub begin_with_list : Own → (left : ℕ) → Initials → Room → Checked Room
+begin_with_list o left no_more r = begin_with_zeros o left r
+begin_with_list o zero (and_then e es) r = refused WrongType o.site
+begin_with_list o (suc left) (and_then (Given e) es) r = then (begin_with o (suc left) e r) (begin_with_list o left es)
+begin_with_list o (suc left) (and_then Absent es) r = refused (LeftOut InitialList) o.site
+begin_with_list o (suc left) (and_then (Listed at is) es) r = refused (LeftOut InitialList) o.site
+
+abbrev pub begin_listed : (dimensions : ℕ) → Site → Initials → Own → Room → Checked Room
+begin_listed n at es o r = cond (nat_eq n 1 && not o.is_vector) (begin_with_list o o.length es r) (refused (LeftOut InitialList) at)
+
+abbrev pub begin_own : (dimensions : ℕ) → Initial → (Own × Room) → Checked Room
+begin_own n Absent o = Ok o.1
+begin_own n (Given e) o = refused WrongType o.0.site
+begin_own n (Listed at es) o = begin_listed n at es o.0 o.1
+
+abbrev pub declare_own : Shared → Declarator → List (Option Expression) → Room → Checked Room
+declare_own c d ds r =
+    then (lengths_behind d.site no_lengths ds r) (λ ns. then (own_declared c d ns r) (begin_own (length ns.all) d.initial))
+
 abbrev pub declare_variable : Shared → Declarator → List (Option Expression) → Room → Checked Room
-declare_variable c d [] r = declare_private c d d.initial r
-declare_variable c d (n ∷ ns) r = refused (LeftOut PrivateArray) d.site
+declare_variable c d ds r = cond (nat_eq (length ds) 0) (declare_private c d d.initial r) (declare_own c d ds r)
+
+-- A pointer is an array with an offset, which its slot has: from its declaration on it points into that array
+abbrev pub offset_of : Option core.Term → core.Term
+offset_of None = int 0
+offset_of (Some o) = o
+
+-- a row that is the same at each place: that of a private array
+abbrev pub is_fixed : core.Term → Bool
+is_fixed (core.Literal k z) = true
+is_fixed (core.Id k f n) = true
+is_fixed (core.Binary op k s l r) = is_fixed l && is_fixed r
+is_fixed (core.Convert k s t) = is_fixed t
+is_fixed t = false
+
+-- the row that a pointer points into, where it is not the whole array
+abbrev pub row_behind : Site → (lengths : List ℕ) → Option core.Term → Checked (Option (ℕ × core.Term))
+row_behind at (n ∷ []) None = Ok None
+row_behind at (n ∷ []) (Some t) = cond (is_fixed t) (Ok (Some (n, t))) (refused (LeftOut Pointer) at)
+row_behind at [] None = Ok None
+row_behind at ns t = refused (LeftOut Pointer) at
+
+-- what a pointer points into, and its offset
+pub record Pointed : Type 0 where
+  pub array : Array
+  pub element : ValueType
+  pub is_constant : Bool
+  pub row : Option (ℕ × core.Term)
+  pub offset : Option core.Term
+
+abbrev pub pointed_by : Part → Option (ℕ × core.Term) → Pointed
+pointed_by p row = record { array = p.array; element = p.element; is_constant = p.is_constant; row = row; offset = p.offset }
+
+abbrev pub pointed : Site → Part → Checked Pointed
+pointed at p = then (row_behind at p.lengths p.index) (λ row. Ok (pointed_by p row))
+
+abbrev pub pointed_in : Site → Expression → Room → Checked Pointed
+pointed_in at e r = then (part_of (known r) at e) (pointed at)
+
+-- a pointer's type names the space of what it points into (OpenCL 1.2, 6.5)
+abbrev pub is_in_space : core.Space → Option Space → Bool
+is_in_space core.Global (Some Global) = true
+is_in_space core.Global (Some Constant) = true
+is_in_space core.Local (Some Local) = true
+is_in_space s q = false
+
+abbrev pub is_private : Option Space → Bool
+is_private None = true
+is_private (Some Private) = true
+is_private q = false
+
+abbrev pub may_point : Option Space → Array → Option (ℕ × core.Term) → Bool
+may_point q a None = is_in_space a.space q
+may_point q a (Some row) = is_private q
+
+abbrev pub pointer_named : Site → (name : List ℕ) → Meaning → Room → Checked Room
+pointer_named at name m r =
+    then (declared at name m r) (λ o. Ok (with_range at name o.next not_ended (with_slot word.Int o)))
+
+abbrev pub pointer_set : Shared → Declarator → Pointed → Room → Checked Room
+pointer_set c d p r =
+    then (next_slot d.site r) (λ slot. then (set slot (offset_of p.offset) d.site r)
+    (pointer_named d.site d.name (PointerOf p.array p.element (c.qualifiers.constant || p.is_constant) p.row slot)))
+
+abbrev pub may_be : Shared → Pointed → Bool
+may_be c p = is_same_type p.element c.type && may_point c.qualifiers.space p.array p.row
+
+abbrev pub pointer_kept : Shared → Declarator → Pointed → Room → Checked Room
+pointer_kept c d p r = cond (may_be c p) (pointer_set c d p r) (refused (LeftOut Pointer) d.site)
+
+abbrev pub declare_pointer : Shared → Declarator → Initial → Room → Checked Room
+declare_pointer c d (Given e) r = then (pointed_in d.site e r) (λ p. pointer_kept c d p r)
+declare_pointer c d i r = refused (LeftOut Pointer) d.site
 
 abbrev pub declare_in_space : Shared → Declarator → Option Space → Room → Checked Room
 declare_in_space c d None r = declare_variable c d d.dimensions r
@@ -130,9 +291,14 @@ declare_in_space c d (Some Local) r = declare_local_variable c d d.dimensions r
 declare_in_space c d (Some Constant) r = refused (LeftOut ConstantVariable) d.site
 declare_in_space c d (Some Global) r = refused WrongType d.site
 
+abbrev pub declare_starred : Shared → Declarator → List (Option Expression) → Room → Checked Room
+declare_starred c d ds r = cond (nat_eq (length ds) 0) (declare_pointer c d d.initial r) (refused (LeftOut Pointer) d.site)
+
+-- by its stars
 abbrev pub declare_one : Shared → Declarator → List Qualifiers → Room → Checked Room
-declare_one c d [] r = declare_in_space c d c.qualifiers.space r
-declare_one c d (q ∷ qs) r = refused (LeftOut Pointer) d.site
+declare_one c d stars r =
+    cond (nat_eq (length stars) 0) (declare_in_space c d c.qualifiers.space r)
+    (cond (nat_eq (length stars) 1) (declare_starred c d d.dimensions r) (refused (LeftOut Pointer) d.site))
 
 abbrev pub declare_all : Shared → List Declarator → Room → Checked Room
 declare_all c [] r = Ok r

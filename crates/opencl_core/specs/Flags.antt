@@ -8,9 +8,11 @@ use Rattle.texts.specs.Surface.{Arithmetic}
 use Rattle.opencl_tree.specs.Tree.{Expression, Name, Infix, Expressions, nothing, also}
 use Rattle.opencl_values.specs.Faults.{Checked, BarrierFlags, LeftOut, Effect, Outside, refused, then, when, found}
 use Rattle.opencl_values.specs.Scope.{meaning_of}
+use Rattle.opencl_values.specs.Widened.{written_width}
 use Rattle.opencl_core.specs.Sites.{begin_of}
 use Rattle.opencl_core.specs.Names.{is_one_of}
 use Rattle.opencl_core.specs.Rooms.{Room, write}
+use Rattle.opencl_core.specs.VectorStores.{write_vector}
 
 -- whether a flag is the local one
 abbrev pub flag_named : List ℕ → Option Bool
@@ -52,10 +54,15 @@ is_hidden r name = is_some (meaning_of r.visible name)
 abbrev pub is_own : (name : List ℕ) → Room → Bool
 is_own name r = is_hidden r name || (is_hidden r (codes "CLK_LOCAL_MEM_FENCE") || is_hidden r (codes "CLK_GLOBAL_MEM_FENCE"))
 
+-- a vector may be stored, all else is left out
+abbrev pub written : Site → Expressions → Room → (width : Option ℕ) → Checked Room
+written at es r None = refused (LeftOut Effect) at
+written at es r (Some n) = write_vector at n es r
+
 abbrev pub built_in : Site → (name : List ℕ) → Expressions → Room → Checked Room
 built_in at name es r =
     cond (bytes_eq name (codes "barrier")) (barrier at es r)
-    (cond (is_fence name) (then (fences_in at es) (λ f. Ok r)) (refused (LeftOut Effect) at))
+    (cond (is_fence name) (then (fences_in at es) (λ f. Ok r)) (written at es r (written_width name)))
 
 abbrev pub called : Site → (name : List ℕ) → Expressions → Room → Checked Room
 called at name es r = cond (is_own name r) (refused (LeftOut Outside) at) (built_in at name es r)

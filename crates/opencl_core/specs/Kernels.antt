@@ -17,10 +17,12 @@ use Rattle.opencl_core.specs.Writing.{Outside, write_all}
 use Rattle.opencl_core.specs.Places.{placed_all}
 
 -- the names that the file declares beside the kernel stand around it
-abbrev pub empty_room : (ids : Kind) → List Binding → Room
-empty_room ids outside = record {
+abbrev pub empty_room : (ids : Kind) → Three ℕ → List Binding → Room
+empty_room ids sizes outside = record {
   ids = ids;
+  sizes = sizes;
   visible = outside;
+  drawn = [];
   around = length outside;
   slots = [];
   arrays = [];
@@ -32,9 +34,9 @@ empty_room ids outside = record {
 }
 
 -- a kernel returns nothing (OpenCL 1.2, 6.7.1)
-abbrev pub head_room : (ids : Kind) → List Binding → Header → Checked Room
-head_room ids outside h =
-    then (when (may_name_kernel h.name) NameTwice h.site (empty_room ids outside)) (λ r. when (is_void h.base h.stars) WrongType h.site r)
+abbrev pub head_room : (ids : Kind) → Three ℕ → List Binding → Header → Checked Room
+head_room ids sizes outside h =
+    then (when (may_name_kernel h.name) NameTwice h.site (empty_room ids sizes outside)) (λ r. when (is_void h.base h.stars) WrongType h.site r)
 
 -- what a head gives to launches
 pub record Given : Type 0 where
@@ -73,5 +75,5 @@ finished g r = record { core = core_of g r; names = names_at r.next r.names }
 
 unfoldable pub kernel_of : (ids : Kind) → (outside : List Binding) → Three ℕ → Header → List LocalCount → Statements → Checked Written
 kernel_of ids outside sizes h ls body =
-    then (head_room ids outside h) (λ r. then (declare_parameters ls h.parameters r) (λ p. then (write_all Outside body p) (λ b.
+    then (head_room ids sizes outside h) (λ r. then (declare_parameters ls h.parameters r) (λ p. then (write_all Outside body p) (λ b.
     Ok (finished (given_by sizes p) b))))

@@ -1,4 +1,6 @@
 pub mod Assigning
+pub mod Components
+pub mod ComponentsView
 pub mod Constants
 pub mod Declaring
 pub mod Flags
@@ -10,5 +12,6 @@ pub mod PlacesView
 pub mod Repeating
 pub mod Rooms
 pub mod Sites
+pub mod VectorStores
 pub mod View
 pub mod Writing

@@ -4,20 +4,23 @@ use Rattle.std.specs.Prelude.{ℕ, ◌+◌, ◌-◌, List, [], ◌∷◌, ◌++�
 use Rattle.semantics.specs.Word.{Kind}
 use Rattle.semantics.specs.Core as core
 use Rattle.semantics.specs.Core.{Site}
-use Rattle.semantics.specs.Launch.{LocalArray}
+use Rattle.semantics.specs.Launch.{LocalArray, Three}
 use Rattle.kernel_names.specs.NameMap as maps
 use Rattle.kernel_names.specs.NameMap.{NameMap, Variable, Sort, Other, Standing, with_variable}
 use Rattle.opencl_terms.specs.Types.{ValueType, kind_of}
-use Rattle.opencl_values.specs.Scope.{Binding, Meaning, VariableOf, meaning_of}
+use Rattle.opencl_values.specs.Scope.{Binding, Drawn, Meaning, Names, VariableOf, meaning_of}
+use Rattle.opencl_values.specs.Wholes.{places}
 use Rattle.opencl_values.specs.Faults.{Checked, NameTwice, TooMany, when, then}
 use Rattle.opencl_core.specs.Names.{is_taken}
 
--- `ids` is the kind of ids and sizes. Of the names that are visible the first `around` are declared around the innermost block. `slots` are
--- the kinds of all slots, of value parameters and then of variables. `elements` counts those of all local arrays. `written` are the core statements of the part that is being written,
+-- `ids` is the kind of ids and sizes, `sizes` are those of a work-group. Of the names that are visible the first `around` are declared around the innermost block. `drawn` are
+-- the values of expressions with effects that were written out. `slots` are the kinds of all slots, of value parameters and then of variables. `elements` counts those of all local arrays. `written` are the core statements of the part that is being written,
 -- and `names` is the map of names, whose statements are those of this part and whose variables are those of this block
 pub record Room : Type 0 where
   pub ids : Kind
+  pub sizes : Three ℕ
   pub visible : List Binding
+  pub drawn : List Drawn
   pub around : ℕ
   pub slots : List Kind
   pub arrays : List LocalArray
@@ -26,6 +29,10 @@ pub record Room : Type 0 where
   pub next : ℕ
   pub written : core.Statements
   pub names : NameMap
+
+-- what terms of expressions depend on
+abbrev pub known : Room → Names
+known r = record { ids = r.ids; visible = r.visible; drawn = r.drawn }
 
 abbrev pub most_statements : ℕ
 most_statements = 4096
@@ -121,20 +128,32 @@ next_slot at r = when (nat_lt (length r.slots) most_slots) TooMany at (length r.
 abbrev pub with_slot : Kind → Room → Room
 with_slot k r = record r { slots = r.slots ++ k ∷ [] }
 
--- a variable in the next slot
-abbrev pub slot_declared : Site → (name : List ℕ) → ValueType → (is_constant : Bool) → Room → Checked Room
-slot_declared at name t is_constant r =
-    then (next_slot at r) (λ slot. then (declared at name (VariableOf t slot is_constant) r) (λ d. Ok (with_slot (kind_of d.ids t.scalar) d)))
-
 -- a variable in the map of names, by the numbers of the statements in which it is visible
 abbrev pub with_range : Site → (name : List ℕ) → (first last : ℕ) → Room → Room
 with_range at name first last r = record r { names = with_variable name at first last r.names }
 
+-- the slots that come next, for the components of a vector one behind the other
+abbrev pub next_slots : Site → (count : ℕ) → Room → Checked ℕ
+next_slots at n r = when (nat_le (length r.slots + n) most_slots) TooMany at (length r.slots)
+
+unfoldable pub component_added : Site → (name : List ℕ) → (first last : ℕ) → Kind → Room → Room
+component_added at name first last k r = with_range at name first last (with_slot k r)
+
+abbrev pub components_added : Site → (name : List ℕ) → (first last : ℕ) → Kind → (places : List ℕ) → Room → Room
+components_added at name first last k [] r = r
+components_added at name first last k (p ∷ ps) r = components_added at name first last k ps (component_added at name first last k r)
+
 -- a private variable, which is visible from the next statement on
+abbrev pub visible_from : Site → (name : List ℕ) → ValueType → Room → Room
+visible_from at name t r = components_added at name r.next not_ended (kind_of r.ids t.scalar) (places t.width) r
+
 abbrev pub variable_declared : Site → (name : List ℕ) → ValueType → (is_constant : Bool) → Room → Checked Room
 variable_declared at name t is_constant r =
-    then (slot_declared at name t is_constant r) (λ d. Ok (with_range at name d.next not_ended d))
+    then (next_slots at t.width r) (λ slot. then (declared at name (VariableOf t slot is_constant) r) (λ d. Ok (visible_from at name t d)))
 
 -- a variable that the text does not name: it is visible nowhere
 abbrev pub made_up : Site → Kind → Room → Room
 made_up at k r = with_range at (codes "_") 1 0 (with_slot k r)
+
+abbrev pub all_made_up : Site → Kind → (count : ℕ) → Room → Room
+all_made_up at k n r = components_added at (codes "_") 1 0 k (places n) r

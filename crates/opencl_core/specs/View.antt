@@ -4,7 +4,7 @@ use Rattle.std.specs.Prelude.{ℕ, List, map, Option, Some, None, String, string
 use Rattle.std.specs.declared.alloc.Global.{Global}
 use Rattle.semantics.specs.Launch as launch
 use Rattle.semantics.specs.Word as word
-use Rattle.core_code.specs.View.{site, kernel, local_array, statements}
+use Rattle.core_code.specs.View.{array, site, kernel, local_array, statements}
 use Rattle.kernel_names.specs.View.{standing, variable, names_seen}
 use Rattle.syntax.specs.View.{assign_sign}
 use Rattle.words.specs.View.{kind}
@@ -12,9 +12,10 @@ use Rattle.opencl_tree.specs.Tree as tree
 use Rattle.opencl_tree.specs.View.{base, qualifiers, expression, maybe}
 use Rattle.opencl_tree.specs.declared.tree.Expr.{Expr}
 use Rattle.opencl_terms.specs.Answers.{value_type}
+use Rattle.opencl_terms.specs.View.{scalar}
 use Rattle.opencl_values.specs.Elements as elements
-use Rattle.opencl_values.specs.ElementsView.{element}
-use Rattle.opencl_values.specs.View.{bindings}
+use Rattle.opencl_values.specs.ElementsView.{element, maybe_term}
+use Rattle.opencl_values.specs.View.{all_drawn, bindings, maybe_row}
 use Rattle.opencl_core.specs.Assigning as assigning
 use Rattle.opencl_core.specs.Declaring as declaring
 use Rattle.opencl_core.specs.Flags as flags
@@ -23,6 +24,7 @@ use Rattle.opencl_core.specs.Kernels as kernels
 use Rattle.opencl_core.specs.Rooms as rooms
 use Rattle.opencl_core.specs.Writing as writing
 use Rattle.opencl_core.specs.declared.assigning.Change.{Change}
+use Rattle.opencl_core.specs.declared.assigning.Pointing.{Pointing}
 use Rattle.opencl_core.specs.declared.assigning.Target.{Target}
 use Rattle.opencl_core.specs.declared.declaring.Lengths.{Lengths}
 use Rattle.opencl_core.specs.declared.declaring.Shared.{Shared}
@@ -32,16 +34,23 @@ use Rattle.opencl_core.specs.declared.heads.LocalCount.{LocalCount}
 use Rattle.opencl_core.specs.declared.kernels.Given.{Given}
 use Rattle.opencl_core.specs.declared.kernels.Written.{Written}
 use Rattle.opencl_core.specs.declared.locals.LocalShape.{LocalShape}
+use Rattle.opencl_core.specs.declared.owning.Own.{Own}
+use Rattle.opencl_core.specs.declared.pointing.Pointed.{Pointed}
 use Rattle.opencl_core.specs.declared.rooms.Part.{Part}
 use Rattle.opencl_core.specs.declared.rooms.Room.{Room}
 use Rattle.opencl_core.specs.declared.rooms.Scope.{Scope}
 use Rattle.opencl_core.specs.declared.writing.Around.{Around}
 use Rattle.opencl_core.specs.declared.writing.Around.TheVariants as arounds
 
+abbrev pub three : List ℕ → launch.Three ℕ
+three sizes = record { x = slice_index sizes 0; y = slice_index sizes 1; z = slice_index sizes 2 }
+
 abbrev pub room : Room → rooms.Room
 room r = record {
   ids = kind r.ids;
+  sizes = three r.sizes;
   visible = bindings r.visible.items;
+  drawn = all_drawn r.drawn.items;
   around = r.around;
   slots = map kind r.slots.items;
   arrays = map local_array r.arrays.items;
@@ -67,12 +76,31 @@ shared s = record { type = value_type s.of; qualifiers = qualifiers s.qualifiers
 abbrev pub lengths : Lengths → declaring.Lengths
 lengths l = record { all = l.all.items; product = l.product }
 
+abbrev pub own : Own → declaring.Own
+own o = record { site = site o.site; number = o.number; scalar = scalar o.scalar; is_vector = o.is_vector; length = o.length }
+
+abbrev pub pointed : Pointed → declaring.Pointed
+pointed p = record {
+  array = array p.array;
+  element = value_type p.element;
+  is_constant = p.is_constant;
+  row = maybe_row p.row;
+  offset = maybe_term p.offset;
+}
+
 abbrev pub value_given : Option (Bor Expr) → Option tree.Expression
 value_given None = None
 value_given (Some e) = Some (expression e.now)
 
 abbrev pub change : Change → assigning.Change
 change c = record { at = site c.at; sign = assign_sign c.sign; sign_site = site c.sign_site; value = value_given c.value }
+
+abbrev pub pointing : Pointing → assigning.Pointing
+pointing p = record { array = array p.array; element = value_type p.element; is_own = p.is_own; slot = p.slot }
+
+abbrev pub maybe_pointing : Option Pointing → Option assigning.Pointing
+maybe_pointing None = None
+maybe_pointing (Some p) = Some (pointing p)
 
 abbrev pub target : Target → elements.Element × word.Kind
 target t = (element t.element, kind t.kind)
@@ -85,9 +113,6 @@ named p = record { site = site p.site; name = p.name.now; type = value_type p.of
 
 abbrev pub fences : Fences → flags.Fences
 fences f = record { local = f.local; global = f.global }
-
-abbrev pub three : List ℕ → launch.Three ℕ
-three sizes = record { x = slice_index sizes 0; y = slice_index sizes 1; z = slice_index sizes 2 }
 
 abbrev pub given : Given → kernels.Given
 given g = record { sizes = three g.sizes; buffers = map kind g.buffers.items; arguments = map kind g.arguments.items }

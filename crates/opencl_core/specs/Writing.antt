@@ -8,9 +8,10 @@ use Rattle.kernel_names.specs.NameMap.{Turning, Other}
 use Rattle.opencl_tree.specs.Tree.{Expression, Call, First, FirstAbsent, FirstDeclares, FirstEvaluates, Statement, Declare, Typedef, Evaluate, If, While, Do, For, Switch, Case, Default, Break, Continue, Return, Block, Empty, Statements, none, one}
 use Rattle.opencl_values.specs.Faults.{Checked, WrongType, JumpOutside, LeftOut, Repetition, Choice, refused, then}
 use Rattle.opencl_values.specs.Singles.{as_test}
+use Rattle.opencl_values.specs.Wholes.{only}
 use Rattle.opencl_values.specs.Values.{value_of}
 use Rattle.opencl_core.specs.Sites.{begin_of}
-use Rattle.opencl_core.specs.Rooms.{Room, Part, counted, put, write, apart, part_of, rejoined, opened, scope_of, closed}
+use Rattle.opencl_core.specs.Rooms.{Room, known, Part, counted, put, write, apart, part_of, rejoined, opened, scope_of, closed}
 use Rattle.opencl_core.specs.Flags.{called}
 use Rattle.opencl_core.specs.Assigning.{effect}
 use Rattle.opencl_core.specs.Declaring.{write_declaration, write_typedef}
@@ -30,7 +31,7 @@ block go r = then (go (opened r)) (λ s. Ok (closed (scope_of r) s))
 
 -- a test as a term: not 0 where it holds (C99 6.8.4.1p2)
 abbrev pub test_of : Expression → Room → Checked core.Term
-test_of e r = then (value_of r.ids r.visible e) (λ v. Ok (as_test r.ids (begin_of e) v))
+test_of e r = then (value_of (known r) e) (λ v. then (only (begin_of e) v) (λ s. Ok (as_test r.ids (begin_of e) s)))
 
 -- an `if` of a number, of which both parts are written
 abbrev pub put_if : Site → (number : ℕ) → core.Term → (taken skipped : Part) → Room → Room
@@ -84,7 +85,7 @@ first_written FirstAbsent r = Ok r
 first_written (FirstDeclares d) r = write_declaration d r
 first_written (FirstEvaluates e) r = effect e r
 
-abbrev pub for_whole : Site → First → (test : Option Expression) → (body : (number : ℕ) → Room → Checked Room) → (update : Option Expression) → Room → Checked Room
+unfoldable pub for_whole : Site → First → (test : Option Expression) → (body : (number : ℕ) → Room → Checked Room) → (update : Option Expression) → Room → Checked Room
 for_whole at first test body update r =
     block (λ o. then (first_written first o) (loop_of at (maybe_test test) body (maybe_effect update))) r
 

@@ -4,24 +4,27 @@ ghost use Rattle.std.specs.Prelude.{◌≡◌, map};
 ghost use Rattle.core_code.specs.View.{site as site_seen};
 ghost use Rattle.opencl_tree.specs.View.{declaration as declaration_seen, declarator as declarator_seen, expression, initial as initial_seen, maybe, qualifiers as qualifiers_seen, space_of};
 ghost use Rattle.opencl_terms.specs.Answers.{value_type};
-ghost use Rattle.opencl_terms.specs.View.{scalar as scalar_seen};
-ghost use Rattle.opencl_values.specs.View.{Gives};
+ghost use Rattle.opencl_values.specs.View.{Gives, value as value_seen};
 ghost use Rattle.opencl_core.specs.Declaring as rules;
 ghost use Rattle.opencl_core.specs.View as seen;
 
+use crate::components::set_picked;
 use crate::constants::constant_of;
 use crate::locals::{LocalShape, MOST_ELEMENTS};
+use crate::owning::declare_own;
+use crate::pointing::declare_pointer;
 use crate::rooms::Room;
 use crate::sites::begin_of;
 use core_code::tree::Site;
-use opencl_terms::scalars::{Scalar, ValueType};
+use opencl_terms::scalars::ValueType;
 use opencl_tree::tree::{Declaration, Declarator, Expr, Initial};
 use opencl_tree::types::{Qualifiers, Space};
 use opencl_values::error::{Construct, Fault, ValueError, refused};
-use opencl_values::names::{scalar_in, type_of_base};
+use opencl_values::names::type_of_base;
 use opencl_values::scope::Meaning;
-use opencl_values::singles::as_scalar;
 use opencl_values::values::value_of;
+use opencl_values::vectors::converted_to;
+use opencl_values::wholes::{Value, only, places, words};
 use std::alloc::Global;
 
 /// What the declarators of a declaration share.
@@ -35,8 +38,9 @@ pub struct Shared {
 fn number_of(alloc: Global, of: &Expr, room: &Room) -> Result<u32, ValueError>
     ensures { Gives (λ n. n) result (rules.number_of (expression of.now) (seen.room room.now)) }
 {
-    let value = value_of(alloc, room.ids, &room.visible, of)?;
-    match constant_of(&value.term) {
+    let value = value_of(alloc, room.known(), of)?;
+    let single = only(begin_of(of), value)?;
+    match constant_of(&single.term) {
         Some(number) => Ok(number),
         None => refused(Fault::WrongType, begin_of(of)),
     }
@@ -81,7 +85,8 @@ fn push_length(at: Site, so: &mut Lengths, length: u32) -> Result<(), ValueError
     }
 }
 
-fn lengths_of(
+/// The lengths of dimensions.
+pub fn lengths_of(
     alloc: Global,
     at: Site,
     dimensions: &[Option<Expr>],
@@ -119,9 +124,12 @@ fn local_of(
     if !begins_with_nothing(&declarator.initial) {
         return refused(Fault::WrongType, declarator.site);
     }
+    let Some(count) = lengths.product.checked_mul(words(shared.of.width)) else {
+        return Err(ValueError::Memory);
+    };
     Ok(LocalShape {
         of: shared.of,
-        count: lengths.product,
+        count,
         lengths: lengths.all,
         is_constant: shared.qualifiers.constant,
     })
@@ -143,25 +151,50 @@ fn declare_local<'a>(
     room.declare_local(alloc, declarator.site, declarator.name.as_str(), local)
 }
 
+// The value that a variable begins with.
+fn first_value(
+    alloc: Global,
+    shared: Shared,
+    declarator: &Declarator,
+    value: &Expr,
+    room: &Room,
+) -> Result<Value, ValueError>
+    ensures { Gives value_seen result (rules.first_value (seen.shared shared) (declarator_seen declarator.now) (expression value.now) (seen.room room.now)) }
+{
+    let value = value_of(alloc, room.known(), value)?;
+    converted_to(alloc, room.ids, declarator.site, shared.of, value)
+}
+
+fn set_first(
+    alloc: Global,
+    shared: Shared,
+    declarator: &Declarator,
+    value: &Value,
+    room: &mut Room,
+) -> Result<(), ValueError>
+    ensures { Gives (λ _. seen.room room.new) result (rules.set_first (seen.shared shared) (declarator_seen declarator.now) (value_seen value.now) (seen.room room.old)) }
+{
+    let at = declarator.site;
+    let width = shared.of.width;
+    let slot = room.next_slots(at, width)?;
+    set_picked(alloc, at, slot, value, places(width), room)
+}
+
 // A variable that begins with a value, which is typed before the name is visible.
 fn declare_set<'a>(
     alloc: Global,
     shared: Shared,
     declarator: &'a Declarator,
-    scalar: Scalar,
     value: &Expr,
     room: &mut Room<'a>,
 ) -> Result<(), ValueError>
-    ensures { Gives (λ _. seen.room room.new) result (rules.declare_set (seen.shared shared) (declarator_seen declarator.now) (scalar_seen scalar) (expression value.now) (seen.room room.old)) }
+    ensures { Gives (λ _. seen.room room.new) result (rules.declare_set (seen.shared shared) (declarator_seen declarator.now) (expression value.now) (seen.room room.old)) }
 {
-    let at = declarator.site;
-    let value = value_of(alloc, room.ids, &room.visible, value)?;
-    let slot = room.next_slot(at)?;
-    let value = as_scalar(alloc, room.ids, scalar, at, value)?;
-    room.set(slot, value, at)?;
+    let value = first_value(alloc, shared, declarator, value, room)?;
+    set_first(alloc, shared, declarator, &value, room)?;
     room.declare_variable(
         alloc,
-        at,
+        declarator.site,
         declarator.name.as_str(),
         shared.of,
         shared.qualifiers.constant,
@@ -178,20 +211,14 @@ fn declare_private<'a>(
     ensures { Gives (λ _. seen.room room.new) result (rules.declare_private (seen.shared shared) (declarator_seen declarator.now) (declarator_seen declarator.now).initial (seen.room room.old)) }
 {
     match &declarator.initial {
-        Initial::Absent => {
-            scalar_in(declarator.site, shared.of)?;
-            room.declare_variable(
-                alloc,
-                declarator.site,
-                declarator.name.as_str(),
-                shared.of,
-                shared.qualifiers.constant,
-            )
-        }
-        Initial::Given(value) => {
-            let scalar = scalar_in(declarator.site, shared.of)?;
-            declare_set(alloc, shared, declarator, scalar, value, room)
-        }
+        Initial::Absent => room.declare_variable(
+            alloc,
+            declarator.site,
+            declarator.name.as_str(),
+            shared.of,
+            shared.qualifiers.constant,
+        ),
+        Initial::Given(value) => declare_set(alloc, shared, declarator, value, room),
         Initial::Listed { site, .. } => refused(Fault::LeftOut(Construct::InitialList), *site),
     }
 }
@@ -207,7 +234,7 @@ fn declare_variable<'a>(
     if declarator.dimensions.is_empty() {
         declare_private(alloc, shared, declarator, room)
     } else {
-        refused(Fault::LeftOut(Construct::PrivateArray), declarator.site)
+        declare_own(alloc, shared, declarator, room)
     }
 }
 
@@ -229,6 +256,22 @@ fn declare_in_space<'a>(
     }
 }
 
+fn declare_starred<'a>(
+    alloc: Global,
+    shared: Shared,
+    declarator: &'a Declarator,
+    room: &mut Room<'a>,
+) -> Result<(), ValueError>
+    ensures { Gives (λ _. seen.room room.new) result (rules.declare_starred (seen.shared shared) (declarator_seen declarator.now) (declarator_seen declarator.now).dimensions (seen.room room.old)) }
+{
+    if declarator.dimensions.is_empty() {
+        declare_pointer(alloc, shared, declarator, room)
+    } else {
+        refused(Fault::LeftOut(Construct::Pointer), declarator.site)
+    }
+}
+
+#[tactic(auto, using(crate::proofs::Lists::kept))]
 fn declare_one<'a>(
     alloc: Global,
     shared: Shared,
@@ -237,10 +280,10 @@ fn declare_one<'a>(
 ) -> Result<(), ValueError>
     ensures { Gives (λ _. seen.room room.new) result (rules.declare_one (seen.shared shared) (declarator_seen declarator.now) (declarator_seen declarator.now).stars (seen.room room.old)) }
 {
-    if declarator.stars.is_empty() {
-        declare_in_space(alloc, shared, declarator, room)
-    } else {
-        refused(Fault::LeftOut(Construct::Pointer), declarator.site)
+    match declarator.stars.len() {
+        0 => declare_in_space(alloc, shared, declarator, room),
+        1 => declare_starred(alloc, shared, declarator, room),
+        _ => refused(Fault::LeftOut(Construct::Pointer), declarator.site),
     }
 }
 

@@ -13,11 +13,14 @@ ghost use Rattle.opencl_core.specs.View as seen;
 
 use crate::rooms::Room;
 use crate::sites::begin_of;
+use crate::vector_stores::write_vector;
 use core_code::tree::{Operator, Site, Statement};
 use kernel_names::Sort;
 use opencl_tree::tree::Expr;
 use opencl_values::error::{Construct, Fault, ValueError, refused};
 use opencl_values::scope::meaning_of;
+use opencl_values::widened::written_width;
+use std::alloc::Global;
 use syntax::tree::InfixSign;
 
 /// Which fences there are.
@@ -134,25 +137,40 @@ fn is_own(name: &str, room: &Room) -> bool
         || is_hidden(room, "CLK_GLOBAL_MEM_FENCE")
 }
 
-fn built_in(at: Site, name: &str, arguments: &[Expr], room: &mut Room) -> Result<(), ValueError>
+fn built_in(
+    alloc: Global,
+    at: Site,
+    name: &str,
+    arguments: &[Expr],
+    room: &mut Room,
+) -> Result<(), ValueError>
     ensures { Gives (λ _. seen.room room.new) result (rules.built_in (site_seen at) name.now (expressions arguments.now) (seen.room room.old)) }
 {
     if name == "barrier" {
         return barrier(at, arguments, room);
     }
-    if !is_fence(name) {
-        return refused(Fault::LeftOut(Construct::Effect), at);
+    if is_fence(name) {
+        fences_in(at, arguments)?;
+        return Ok(());
     }
-    fences_in(at, arguments)?;
-    Ok(())
+    match written_width(name) {
+        Some(width) => write_vector(alloc, at, width, arguments, room),
+        None => refused(Fault::LeftOut(Construct::Effect), at),
+    }
 }
 
-/// Writes a call that stands as a statement: a barrier, for which there is one, or a fence, for which there is none.
-pub fn called(at: Site, name: &str, arguments: &[Expr], room: &mut Room) -> Result<(), ValueError>
+/// Writes a call that stands as a statement: a barrier, for which there is one, a fence, for which there is none, or stores of a vector.
+pub fn called(
+    alloc: Global,
+    at: Site,
+    name: &str,
+    arguments: &[Expr],
+    room: &mut Room,
+) -> Result<(), ValueError>
     ensures { Gives (λ _. seen.room room.new) result (rules.called (site_seen at) name.now (expressions arguments.now) (seen.room room.old)) }
 {
     if is_own(name, room) {
         return refused(Fault::LeftOut(Construct::Outside), at);
     }
-    built_in(at, name, arguments, room)
+    built_in(alloc, at, name, arguments, room)
 }

@@ -1,15 +1,17 @@
 //! The parameters of kernels.
 
-ghost use Rattle.std.specs.Prelude.{◌≡◌, OnOk, map};
+ghost use Rattle.std.specs.Prelude.{◌≡◌, ◌+◌, IfOk, OnOk, map, string_bytes};
 ghost use Rattle.core_code.specs.View.{site as site_seen};
 ghost use Rattle.syntax.specs.View.{parameter as parameter_seen};
 ghost use Rattle.opencl_tree.specs.View.{qualifiers as qualifiers_seen, space_of};
 ghost use Rattle.opencl_files.specs.View.{parameter as parameter_of};
+ghost use Rattle.opencl_terms.specs.Answers.{value_type};
 ghost use Rattle.opencl_terms.specs.View.{scalar as scalar_seen};
 ghost use Rattle.opencl_values.specs.View.{Gives};
 ghost use Rattle.opencl_core.specs.Heads as rules;
 ghost use Rattle.opencl_core.specs.View as seen;
 
+use crate::components::slot_at;
 use crate::locals::{LocalShape, element_of_type};
 use crate::rooms::Room;
 use core_code::tree::{Array, Site, Space as CoreSpace, Term};
@@ -20,6 +22,7 @@ use opencl_tree::types::{Qualifiers, Space};
 use opencl_values::error::{Construct, Fault, ValueError, refused};
 use opencl_values::names::type_of_base;
 use opencl_values::scope::Meaning;
+use opencl_values::wholes::places;
 use std::alloc::{AllocError, Global};
 use syntax::tree::Parameter as Told;
 
@@ -47,6 +50,25 @@ fn count_of(counts: &[LocalCount], name: &str) -> Option<u32>
         }
     }
     None
+}
+
+fn name_given(parameter: &Told) -> &str
+    ensures { result.now ≡ rules.name_given (parameter_seen parameter.now) }
+{
+    match parameter {
+        Told::Buffer { name, .. } | Told::Value { name, .. } => name.as_str(),
+    }
+}
+
+fn is_given(name: &str, parameters: &[Told]) -> bool
+    ensures { result ≡ rules.is_given name.now (map parameter_seen parameters.now) }
+{
+    for parameter in parameters {
+        if name_given(parameter) == name {
+            return true;
+        }
+    }
+    false
 }
 
 impl<'a> Room<'a> {
@@ -153,21 +175,131 @@ fn narrow(
     room.set(slot, value, at)
 }
 
+// What stands behind a vector's name in that of a component.
+fn suffix_of(place: u32) -> &'static str
+    ensures { result.now ≡ rules.suffix_of place }
+{
+    match place {
+        0 => "_s0",
+        1 => "_s1",
+        2 => "_s2",
+        3 => "_s3",
+        4 => "_s4",
+        5 => "_s5",
+        6 => "_s6",
+        7 => "_s7",
+        8 => "_s8",
+        9 => "_s9",
+        10 => "_sa",
+        11 => "_sb",
+        12 => "_sc",
+        13 => "_sd",
+        14 => "_se",
+        _ => "_sf",
+    }
+}
+
+fn component_name(alloc: Global, parameter: Named, place: u32) -> Result<String, AllocError>
+    ensures { IfOk result (λ s. string_bytes s ≡ rules.component_name (seen.named parameter.entry) place) }
+{
+    let mut name = String::from_str(alloc, parameter.name)?;
+    if parameter.of.is_vector() {
+        name.push_str(suffix_of(place))?;
+    }
+    Ok(name)
+}
+
 fn keep_argument(
-    alloc: Global,
     parameter: Named,
     scalar: Scalar,
+    name: String,
     room: &mut Room,
 ) -> Result<(), AllocError>
-    ensures { OnOk result (seen.room room.new ≡ rules.argument_kept (seen.named parameter.entry) (scalar_seen scalar) (seen.room room.old)) }
+    ensures { OnOk result (seen.room room.new ≡ rules.argument_kept (seen.named parameter.entry) (scalar_seen scalar) (string_bytes name) (seen.room room.old)) }
 {
     let kind = scalar.kind(room.ids);
-    let name = String::from_str(alloc, parameter.name)?;
+    room.slots.push(kind)?;
     room.push_parameter(Told::Value {
         kind,
         name_site: parameter.site,
         name,
     })
+}
+
+// A scalar, or a component of a vector, as a parameter of its own.
+fn add_argument(
+    alloc: Global,
+    parameter: Named,
+    scalar: Scalar,
+    place: u32,
+    room: &mut Room,
+) -> Result<(), ValueError>
+    ensures { Gives (λ _. seen.room room.new) result (rules.add_argument (seen.named parameter.entry) (scalar_seen scalar) place (seen.room room.old)) }
+{
+    let name = component_name(alloc, parameter, place)?;
+    if is_given(name.as_str(), &room.names.parameters) {
+        return refused(Fault::NameTwice, parameter.site);
+    }
+    keep_argument(parameter, scalar, name, room)?;
+    Ok(())
+}
+
+fn add_arguments(
+    alloc: Global,
+    parameter: Named,
+    scalar: Scalar,
+    places: &[u32],
+    room: &mut Room,
+) -> Result<(), ValueError>
+    ensures { Gives (λ _. seen.room room.new) result (rules.add_arguments (seen.named parameter.entry) (scalar_seen scalar) places.now (seen.room room.old)) }
+{
+    for place in places {
+        add_argument(alloc, parameter, scalar, *place, room)?;
+    }
+    Ok(())
+}
+
+fn narrow_component(
+    alloc: Global,
+    at: Site,
+    slot: (u32, u32),
+    scalar: Scalar,
+    room: &mut Room,
+) -> Result<(), ValueError>
+    ensures { Gives (λ _. seen.room room.new) result (rules.narrowed (site_seen at) (slot.0 + slot.1) (scalar_seen scalar) (seen.room room.old)) }
+{
+    let slot = slot_at(slot.0, slot.1)?;
+    narrow(alloc, at, slot, scalar, room)
+}
+
+fn narrow_all(
+    alloc: Global,
+    at: Site,
+    slot: u32,
+    scalar: Scalar,
+    places: &[u32],
+    room: &mut Room,
+) -> Result<(), ValueError>
+    ensures { Gives (λ _. seen.room room.new) result (rules.narrow_all (site_seen at) slot (scalar_seen scalar) places.now (seen.room room.old)) }
+{
+    for place in places {
+        narrow_component(alloc, at, (slot, *place), scalar, room)?;
+    }
+    Ok(())
+}
+
+fn add_and_narrow(
+    alloc: Global,
+    parameter: Named,
+    scalar: Scalar,
+    slot: u32,
+    room: &mut Room,
+) -> Result<(), ValueError>
+    ensures { Gives (λ _. seen.room room.new) result (rules.add_and_narrow (seen.named parameter.entry) (scalar_seen scalar) slot (seen.room room.old)) }
+{
+    let all = places(parameter.of.width);
+    add_arguments(alloc, parameter, scalar, all, room)?;
+    narrow_all(alloc, parameter.site, slot, scalar, all, room)
 }
 
 fn declare_argument<'a>(
@@ -179,11 +311,16 @@ fn declare_argument<'a>(
     ensures { Gives (λ _. seen.room room.new) result (rules.declare_argument (seen.named parameter.entry) is_constant (seen.room room.old)) }
 {
     let at = parameter.site;
-    let scalar = element_of_type(at, parameter.of)?;
-    let slot = room.next_slot(at)?;
-    room.declare_slot(at, parameter.name, parameter.of, is_constant)?;
-    keep_argument(alloc, parameter, scalar, room)?;
-    narrow(alloc, at, slot, scalar, room)
+    let of = parameter.of;
+    let scalar = element_of_type(at, of)?;
+    let slot = room.next_slots(at, of.width)?;
+    let meaning = Meaning::Variable {
+        of,
+        slot,
+        is_constant,
+    };
+    room.declare(at, parameter.name, meaning)?;
+    add_and_narrow(alloc, parameter, scalar, slot, room)
 }
 
 fn declare_pointer<'a>(
@@ -257,6 +394,16 @@ fn name_and_type<'a>(parameter: &'a Parameter, room: &Room) -> Result<Named<'a>,
     })
 }
 
+fn new_named<'a>(parameter: &'a Parameter, room: &Room) -> Result<Named<'a>, ValueError>
+    ensures { Gives seen.named result (rules.new_named (parameter_of parameter.now) (seen.room room.now)) }
+{
+    let known = name_and_type(parameter, room)?;
+    if is_given(known.name, &room.names.parameters) {
+        return refused(Fault::NameTwice, known.site);
+    }
+    Ok(known)
+}
+
 /// Declares the parameters of a kernel, from left to right; narrow values are narrowed at once.
 pub fn declare_parameters<'a>(
     alloc: Global,
@@ -267,7 +414,7 @@ pub fn declare_parameters<'a>(
     ensures { Gives (λ _. seen.room room.new) result (rules.declare_parameters (map seen.local_count counts.now) (map parameter_of parameters.now) (seen.room room.old)) }
 {
     for parameter in parameters {
-        let known = name_and_type(parameter, room)?;
+        let known = new_named(parameter, room)?;
         declare_named(
             alloc,
             counts,

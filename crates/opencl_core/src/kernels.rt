@@ -32,13 +32,15 @@ pub struct Written {
     pub names: NameMap,
 }
 
-fn empty_room<'a>(alloc: Global, ids: Kind, outside: Vec<Binding<'a>>) -> Room<'a>
-    ensures { seen.room result ≡ rules.empty_room (kind_seen ids) (bindings outside.entry.items) }
+fn empty_room<'a>(alloc: Global, ids: Kind, sizes: [u32; 3], outside: Vec<Binding<'a>>) -> Room<'a>
+    ensures { seen.room result ≡ rules.empty_room (kind_seen ids) (seen.three sizes) (bindings outside.entry.items) }
 {
     Room {
         ids,
+        sizes,
         around: outside.len(),
         visible: outside,
+        drawn: Vec::new(alloc),
         slots: Vec::new(alloc),
         arrays: Vec::new(alloc),
         elements: 0,
@@ -57,10 +59,11 @@ fn empty_room<'a>(alloc: Global, ids: Kind, outside: Vec<Binding<'a>>) -> Room<'
 fn head_room<'a>(
     alloc: Global,
     ids: Kind,
+    sizes: [u32; 3],
     outside: Vec<Binding<'a>>,
     head: &Header,
 ) -> Result<Room<'a>, ValueError>
-    ensures { Gives seen.room result (rules.head_room (kind_seen ids) (bindings outside.entry.items) (header_seen head.now)) }
+    ensures { Gives seen.room result (rules.head_room (kind_seen ids) (seen.three sizes) (bindings outside.entry.items) (header_seen head.now)) }
 {
     if !may_name_kernel(head.name.as_str()) {
         return refused(Fault::NameTwice, head.site);
@@ -68,7 +71,7 @@ fn head_room<'a>(
     if !is_void(&head.base, &head.stars) {
         return refused(Fault::WrongType, head.site);
     }
-    Ok(empty_room(alloc, ids, outside))
+    Ok(empty_room(alloc, ids, sizes, outside))
 }
 
 // The kinds behind the first ones.
@@ -160,7 +163,7 @@ pub fn kernel_of<'a>(
 ) -> Result<Written, ValueError>
     ensures { Gives seen.written result (rules.kernel_of (kind_seen ids) (bindings outside.entry.items) (seen.three sizes) (header_seen head.now) (map seen.local_count counts.now) (statements_seen body.now)) }
 {
-    let mut room = head_room(alloc, ids, outside, head)?;
+    let mut room = head_room(alloc, ids, sizes, outside, head)?;
     declare_parameters(alloc, counts, &head.parameters, &mut room)?;
     let given = given_by(alloc, sizes, &room)?;
     write_all(alloc, Around::Outside, body, &mut room)?;

@@ -6,6 +6,7 @@
 #![tactic(auto)]
 
 pub mod assigning;
+pub mod components;
 pub mod constants;
 pub mod declaring;
 pub mod flags;
@@ -13,8 +14,11 @@ pub mod heads;
 pub mod kernels;
 pub mod locals;
 mod names;
+pub mod owning;
 mod places;
+pub mod pointing;
 pub mod rooms;
 mod sites;
 mod steady;
-pub mod writing;
+pub mod vector_stores;
+mod writing;

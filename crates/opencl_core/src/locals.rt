@@ -13,7 +13,6 @@ use core_code::tree::{Array, LocalArray, Site, Space};
 use kernel_names::LocalName;
 use opencl_terms::scalars::{Scalar, ValueType};
 use opencl_values::error::{Fault, ValueError, refused};
-use opencl_values::names::scalar_in;
 use opencl_values::scope::Meaning;
 use std::alloc::{AllocError, Global};
 
@@ -33,9 +32,8 @@ fn has_elements(scalar: Scalar) -> bool
 pub fn element_of_type(at: Site, of: ValueType) -> Result<Scalar, ValueError>
     ensures { Gives scalar_seen result (rules.element_of_type (site_seen at) (value_type of)) }
 {
-    let scalar = scalar_in(at, of)?;
-    if has_elements(scalar) {
-        Ok(scalar)
+    if has_elements(of.scalar) {
+        Ok(of.scalar)
     } else {
         refused(Fault::WrongType, at)
     }
@@ -77,7 +75,8 @@ impl<'a> Room<'a> {
         self.has_place() && 1 <= count && fits_behind(self.elements, count)
     }
 
-    fn push_local(
+    /// Takes up a local array.
+    pub fn push_local(
         &mut self,
         alloc: Global,
         at: Site,
@@ -96,8 +95,8 @@ impl<'a> Room<'a> {
         Ok(())
     }
 
-    // The number of the next local array, where one of so many elements may be declared.
-    fn next_array(&self, at: Site, count: u32) -> Result<u32, ValueError>
+    /// The number of the next local array, where one of so many elements may be declared.
+    pub fn next_array(&self, at: Site, count: u32) -> Result<u32, ValueError>
         ensures { Gives (λ n. n) result (rules.next_array (site_seen at) count (seen.room self.now)) }
     {
         if self.fits(count) {

@@ -6,8 +6,9 @@ ghost use Rattle.kernel_names.specs.View.{sort as sort_seen, standing as standin
 ghost use Rattle.words.specs.View.{kind as kind_seen};
 ghost use Rattle.opencl_terms.specs.Answers.{value_type};
 ghost use Rattle.opencl_values.specs.Scope as scope;
-ghost use Rattle.opencl_values.specs.View.{Gives, bindings, meaning as meaning_seen};
+ghost use Rattle.opencl_values.specs.View.{Gives, bindings, meaning as meaning_seen, names as known_seen};
 ghost use Rattle.opencl_core.specs.Rooms as rules;
+ghost use Rattle.semantics.specs.Word as word;
 ghost use Rattle.opencl_core.specs.View as seen;
 
 use crate::names::is_taken;
@@ -15,7 +16,8 @@ use core_code::tree::{LocalArray, Site, Statement, Term};
 use kernel_names::{NameMap, Sort, Standing, Variable};
 use opencl_terms::scalars::ValueType;
 use opencl_values::error::{Fault, ValueError, refused};
-use opencl_values::scope::{Binding, Meaning, meaning_of};
+use opencl_values::scope::{Binding, Drawn, Meaning, Names, meaning_of};
+use opencl_values::wholes::places;
 use std::alloc::{AllocError, Global};
 use std::mem::replace;
 use words::Kind;
@@ -27,14 +29,16 @@ const MOST_SLOTS: usize = 512;
 /// The last number of a name whose block has not ended yet.
 const NOT_ENDED: u32 = 4_097;
 
-/// The kind of ids and sizes; the visible names, of which the first `around` are declared around the innermost block; the kinds of all slots,
-/// of value parameters and then of variables; the local arrays, with the count of their elements; the kinds of the buffers; the number of the
+/// The kind of ids and sizes; the sizes of a work-group; the visible names, of which the first `around` are declared around the innermost block; the values of
+/// expressions with effects that were written out; the kinds of all slots, of value parameters and then of variables; the local arrays, with the count of their elements; the kinds of the buffers; the number of the
 /// next core statement; the statements of the part that is being written; the map of names, with the statements of this part and the variables
 /// of this block.
 #[derive(Drop)]
 pub struct Room<'a> {
     pub ids: Kind,
+    pub sizes: [u32; 3],
     pub visible: Vec<Binding<'a>>,
+    pub drawn: Vec<Drawn>,
     pub around: usize,
     pub slots: Vec<Kind>,
     pub arrays: Vec<LocalArray>,
@@ -107,6 +111,17 @@ fn is_declared(visible: &[Binding], name: &str) -> bool
 }
 
 impl<'a> Room<'a> {
+    /// What terms of expressions depend on.
+    pub fn known(&self) -> Names<'_>
+        ensures { known_seen result ≡ rules.known (seen.room self.now) }
+    {
+        Names {
+            ids: self.ids,
+            visible: self.visible.as_slice(),
+            drawn: self.drawn.as_slice(),
+        }
+    }
+
     /// Gives the next number to a statement that begins here.
     pub fn count(&mut self, at: Site) -> Result<u32, ValueError>
         ensures room { Gives (λ _. seen.room self.new) result (rules.counted (site at) (seen.room self.old)) }
@@ -222,30 +237,6 @@ impl<'a> Room<'a> {
         }
     }
 
-    /// Declares a variable or a value parameter in the next slot.
-    pub fn declare_slot(
-        &mut self,
-        at: Site,
-        name: &'a str,
-        of: ValueType,
-        is_constant: bool,
-    ) -> Result<(), ValueError>
-        ensures { Gives (λ _. seen.room self.new) result (rules.slot_declared (site at) name.now (value_type of) is_constant (seen.room self.old)) }
-    {
-        let slot = self.next_slot(at)?;
-        self.declare(
-            at,
-            name,
-            Meaning::Variable {
-                of,
-                slot,
-                is_constant,
-            },
-        )?;
-        self.slots.push(of.scalar.kind(self.ids))?;
-        Ok(())
-    }
-
     // A variable in the map of names.
     fn push_range(
         &mut self,
@@ -267,6 +258,33 @@ impl<'a> Room<'a> {
         Ok(())
     }
 
+    /// The slots that come next, for the components of a vector one behind the other.
+    pub fn next_slots(&self, at: Site, count: u32) -> Result<u32, ValueError>
+        ensures { Gives (λ slot. slot) result (rules.next_slots (site at) count (seen.room self.now)) }
+    {
+        let slots = self.slots.len();
+        if slots <= MOST_SLOTS && count as usize <= MOST_SLOTS - slots {
+            Ok(slots as u32)
+        } else {
+            refused(Fault::TooMany, at)
+        }
+    }
+
+    #[tactic(auto, unfolding(crate::specs::Rooms::component_added))]
+    fn add_component(
+        &mut self,
+        alloc: Global,
+        at: Site,
+        name: &str,
+        range: (u32, u32),
+        kind: Kind,
+    ) -> Result<(), AllocError>
+        ensures { OnOk result (seen.room self.new ≡ rules.component_added (site at) name.now range.0 range.1 (kind_seen kind) (seen.room self.old)) }
+    {
+        self.slots.push(kind)?;
+        self.push_range(alloc, at, name, range.0, range.1)
+    }
+
     /// Declares a private variable, which is visible from the next statement on.
     pub fn declare_variable(
         &mut self,
@@ -278,9 +296,19 @@ impl<'a> Room<'a> {
     ) -> Result<(), ValueError>
         ensures { Gives (λ _. seen.room self.new) result (rules.variable_declared (site at) name.now (value_type of) is_constant (seen.room self.old)) }
     {
-        self.declare_slot(at, name, of, is_constant)?;
-        let first = self.next;
-        self.push_range(alloc, at, name, first, NOT_ENDED)?;
+        let slot = self.next_slots(at, of.width)?;
+        self.declare(
+            at,
+            name,
+            Meaning::Variable {
+                of,
+                slot,
+                is_constant,
+            },
+        )?;
+        let range = (self.next, NOT_ENDED);
+        let kind = of.scalar.kind(self.ids);
+        add_components(alloc, at, name, range, kind, places(of.width), self)?;
         Ok(())
     }
 
@@ -290,6 +318,28 @@ impl<'a> Room<'a> {
     {
         self.slots.push(kind)?;
         self.push_range(alloc, at, "_", 1, 0)
+    }
+
+    /// Adds variables in the next slots that the text does not name.
+    pub fn make_all_up(
+        &mut self,
+        alloc: Global,
+        at: Site,
+        kind: Kind,
+        count: u32,
+    ) -> Result<(), AllocError>
+        ensures { OnOk result (seen.room self.new ≡ rules.all_made_up (site at) (kind_seen kind) count (seen.room self.old)) }
+    {
+        add_components(alloc, at, "_", (1, 0), kind, places(count), self)
+    }
+
+    /// Takes up a pointer's slot, an `int`, and its name.
+    pub fn push_pointer(&mut self, alloc: Global, at: Site, name: &str) -> Result<(), AllocError>
+        ensures { OnOk result (seen.room self.new ≡ rules.with_range (site at) name.now self.old.next rules.not_ended (rules.with_slot word.Int (seen.room self.old))) }
+    {
+        let first = self.next;
+        self.slots.push(Kind::Int)?;
+        self.push_range(alloc, at, name, first, NOT_ENDED)
     }
 
     /// Writes a value into a slot.
@@ -308,5 +358,26 @@ impl<'a> Room<'a> {
             &[],
         )?;
         Ok(())
+    }
+}
+
+// Adds variables of one name in the next slots.
+fn add_components(
+    alloc: Global,
+    at: Site,
+    name: &str,
+    range: (u32, u32),
+    kind: Kind,
+    places: &[u32],
+    room: &mut Room,
+) -> Result<(), AllocError>
+    ensures { OnOk result (seen.room room.new ≡ rules.components_added (site at) name.now range.0 range.1 (kind_seen kind) places.now (seen.room room.old)) }
+{
+    match places {
+        [] => Ok(()),
+        [_, rest @ ..] => {
+            room.add_component(alloc, at, name, range, kind)?;
+            add_components(alloc, at, name, range, kind, rest, room)
+        }
     }
 }

@@ -20,6 +20,7 @@ use opencl_tree::tree::{Expr, First, Stmt};
 use opencl_values::error::{Construct, Fault, ValueError, refused};
 use opencl_values::singles::as_test;
 use opencl_values::values::value_of;
+use opencl_values::wholes::only;
 use std::alloc::{AllocError, Global};
 use words::Kind;
 
@@ -33,8 +34,9 @@ pub enum Around {
 fn test_of(alloc: Global, of: &Expr, room: &Room) -> Result<Term, ValueError>
     ensures { Gives term result (rules.test_of (expression of.now) (seen.room room.now)) }
 {
-    let value = value_of(alloc, room.ids, &room.visible, of)?;
-    Ok(as_test(alloc, room.ids, begin_of(of), value)?)
+    let value = value_of(alloc, room.known(), of)?;
+    let single = only(begin_of(of), value)?;
+    Ok(as_test(alloc, room.ids, begin_of(of), single)?)
 }
 
 fn always() -> Term
@@ -179,7 +181,7 @@ fn evaluated(alloc: Global, of: &Expr, room: &mut Room) -> Result<(), ValueError
             site,
             name,
             arguments,
-        } => called(*site, name.as_str(), arguments.as_slice(), room),
+        } => called(alloc, *site, name.as_str(), arguments.as_slice(), room),
         _ => effect(alloc, of, room),
     }
 }
@@ -425,6 +427,7 @@ pub struct ForHead<'a> {
 }
 
 #[cycle(writing)]
+#[tactic(auto, unfolding(crate::specs::Writing::for_whole))]
 fn for_whole<'a>(
     alloc: Global,
     head: ForHead<'a>,

@@ -1,3 +1,4 @@
 pub mod Handing
+pub mod Names
 pub mod Pieces
 pub mod Steps

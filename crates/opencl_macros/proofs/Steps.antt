@@ -1,5 +1,5 @@
 -- One step of what counts its steps.
-use Rattle.std.proofs.Common.{◌≡◌, ◌<◌, ◌-◌, ℕ, zero, suc, List, [], refl, ap, sym, ◌∙◌, arith}
+use Rattle.std.proofs.Common.{◌≡◌, ℕ, zero, suc, List, [], refl, ap, sym, ◌∙◌, arith}
 use Rattle.std.specs.Prelude.{Err, Option}
 use Rattle.semantics.specs.Core.{Site}
 use Rattle.opencl_tokens.specs.Tokens.{Token}
@@ -13,7 +13,8 @@ unfolding part
 part-none zero site p ts h = refl
 part-none (suc depth) site p ts h = absurd (omega arith)
 
-pub part-is : (depth left : ℕ) (site : Site) (p : Part) (ts : List Token) → depth ≡ suc left → part depth site p ts ≡ reads (part left site) site p ts
+pub part-is : (depth left : ℕ) (site : Site) (p : Part) (ts : List Token) → depth ≡ suc left
+    → part depth site p ts ≡ reads (part left site) site p ts
 unfolding part
 part-is depth left site p ts e = ap (λ k. part k site p ts) e
 
@@ -28,13 +29,14 @@ pub expanded-is : (depth less : ℕ) (table : Table) (site : Site) (left : ℕ) 
 unfolding expanded
 expanded-is depth less table site left active feed e = ap (λ k. expanded k table site left active feed) e
 
-pub machine-none : (steps : ℕ) (inner : Inner) (site : Site) (table : Table) (m : Machine) → steps ≡ 0 → machine steps inner site table m ≡ Err site
+pub machine-none : (steps : ℕ) (inner : Inner) (site : Site) (table : Table) (m : Machine) → steps ≡ 0
+    → machine steps inner site table m ≡ Err site
 unfolding machine
 machine-none zero inner site table m h = refl
 machine-none (suc steps) inner site table m h = absurd (omega arith)
 
-pub turns : (steps left : ℕ) (inner : Inner) (site : Site) (table : Table) (m : Machine) (p : Option Fed × Machine) → steps ≡ suc left → p ≡ taken m
-    → machine steps inner site table m ≡ runs (machine left inner site table) inner table p
+pub turns : (steps left : ℕ) (inner : Inner) (site : Site) (table : Table) (m : Machine) (p : Option Fed × Machine) → steps ≡ suc left
+    → p ≡ taken m → machine steps inner site table m ≡ runs (machine left inner site table) inner table p
 unfolding machine
 turns steps left inner site table m p e h =
     ap (λ k. machine k inner site table m) e ∙ sym (ap (runs (machine left inner site table) inner table) h)

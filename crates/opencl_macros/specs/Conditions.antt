@@ -1,5 +1,5 @@
 -- The expression of a condition, read from the left (C99 6.10.1, 6.6).
-use Rattle.std.specs.Prelude.{ℕ, zero, suc, ◌+◌, ◌^◌, List, [], ◌∷◌, take, drop, length, Bool, true, false, cond, not, ◌||◌, nat_eq, nat_lt, bytes_eq, Option, Some, None, Result, Ok, Err, codes}
+use Rattle.std.specs.Prelude.{ℕ, zero, suc, ◌+◌, ◌^◌, List, [], ◌∷◌, take, drop, length, Bool, cond, not, ◌||◌, nat_eq, nat_lt, bytes_eq, Option, Some, None, Result, Ok, Err, codes}
 use Rattle.semantics.specs.Core.{Site}
 use Rattle.semantics.specs.Word as words
 use Rattle.opencl_tokens.specs.Faults.{Answered}
@@ -9,7 +9,7 @@ use Rattle.opencl_tokens.specs.Reading.{lexemes_of}
 use Rattle.opencl_tokens.specs.Signs as signs
 use Rattle.opencl_tokens.specs.Signs.{Sign}
 use Rattle.opencl_tokens.specs.Tokens.{TokenKind, Token, Name, Number, Character, Mark}
-use Rattle.opencl_macros.specs.Macros.{is_mark, on}
+use Rattle.opencl_macros.specs.Macros.{is_front, on}
 use Rattle.opencl_macros.specs.Compilers.{is_compilers}
 use Rattle.opencl_macros.specs.Operators.{Value, Binary, Times, Divided, Rest, Plus, Minus, ShiftLeft, ShiftRight, Less, Greater, LessEqual, GreaterEqual, Equal, NotEqual, And, Xor, Or, Both, Either, difference, on_two, binary, negated, choice, tightness}
 
@@ -39,10 +39,6 @@ Got = Result (Value × List Token) Site
 -- what reads a part that stands within
 abbrev pub Within : Type 0
 Within = Part → List Token → Got
-
-abbrev pub is_front : Sign → List Token → Bool
-is_front sign [] = false
-is_front sign (t ∷ ts) = is_mark sign t.kind
 
 abbrev pub behind : List Token → List Token
 behind tokens = drop 1 tokens

@@ -1,9 +1,9 @@
 -- Directives (C99 6.10): what stands on a line behind its `#`.
-use Rattle.std.specs.Prelude.{ℕ, ◌+◌, ◌-◌, List, [], ◌∷◌, length, take, drop, nat_eq, nat_lt, nat_le, Bool, true, false, cond, not, ◌&&◌, ◌||◌, bytes_eq, slice_get, Option, Some, None, codes}
+use Rattle.std.specs.Prelude.{ℕ, ◌+◌, ◌-◌, List, [], ◌∷◌, length, take, drop, nat_eq, nat_lt, nat_le, Bool, true, false, cond, not, ◌&&◌, ◌||◌, bytes_eq, Option, Some, None, codes}
 use Rattle.opencl_tokens.specs.Signs.{Sign, LeftParenthesis, RightParenthesis, Comma, HashHash}
 use Rattle.opencl_tokens.specs.Tokens.{TokenKind, Token, Name}
-use Rattle.opencl_macros.specs.Macros.{Macro, is_mark, is_name}
-use Rattle.opencl_macros.specs.Conditions.{is_front, behind}
+use Rattle.opencl_macros.specs.Macros.{Macro, is_front, is_mark, is_name}
+use Rattle.opencl_macros.specs.Conditions.{behind}
 
 -- `Nothing` is passed over, and `Faulty` is a fault where it is read
 pub data Directive : Type 0 where

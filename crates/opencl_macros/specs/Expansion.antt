@@ -1,9 +1,9 @@
--- The use of a macro: its arguments, and what is put in its place (C99 6.10.3).
-use Rattle.std.specs.Prelude.{ℕ, ◌+◌, ◌-◌, ◌/◌, List, [], ◌∷◌, ◌++◌, length, Bool, true, false, cond, nat_eq, nat_le, nat_lt, ◌&&◌, ◌||◌, bytes_eq, Option, Some, None, slice_get, take}
+-- The use of a macro: its arguments (C99 6.10.3).
+use Rattle.std.specs.Prelude.{ℕ, ◌+◌, ◌-◌, ◌/◌, List, [], ◌∷◌, ◌++◌, length, Bool, true, false, cond, nat_eq, nat_lt, ◌&&◌, ◌||◌, bytes_eq, Option, Some, None, slice_get, take}
 use Rattle.semantics.specs.Core.{Site}
 use Rattle.opencl_tokens.specs.Signs.{LeftParenthesis, RightParenthesis, Comma}
 use Rattle.opencl_tokens.specs.Tokens.{TokenKind, Token, Name}
-use Rattle.opencl_macros.specs.Macros.{Macro, is_mark, is_name}
+use Rattle.opencl_macros.specs.Macros.{is_mark, is_name}
 
 -- what is still to be read: a token, which may be a name that is kept for ever (6.10.3.4p2), or the end of what was put in for a macro
 pub data Fed : Type 0 where
@@ -100,30 +100,3 @@ nth_argument (Some at) arguments = slice_get arguments (at / 2)
 abbrev pub place_in : Option (List Token) → TokenKind → Option ℕ
 place_in (Some parameters) (Name name) = place_of name 0 parameters
 place_in parameters kind = None
-
--- the argument of a token that is a parameter, or else the token
-abbrev pub part : Site → Token → Option (List Fed) → List Fed
-part site token None = Word (moved site token) false ∷ []
-part site token (Some argument) = argument
-
--- what is put in, and how many tokens may still be put in
-pub record Filled : Type 0 where
-  pub tokens : List Fed
-  pub left : ℕ
-
-abbrev pub filled : List Fed → ℕ → Filled
-filled tokens left = record { tokens = tokens; left = left }
-
-abbrev pub with_part : Filled → List Fed → Option Filled
-with_part f tokens = cond (nat_le (length tokens) f.left) (Some (filled (f.tokens ++ tokens) (f.left - length tokens))) None
-
-abbrev pub on_filled : Option Filled → (Filled → Option Filled) → Option Filled
-on_filled None next = None
-on_filled (Some f) next = next f
-
--- the body, with arguments in place of parameters
-abbrev pub replaced : Site → Option (List Token) → List (List Fed) → Filled → (body : List Token) → Option Filled
-replaced site parameters arguments f [] = Some f
-replaced site parameters arguments f (t ∷ body) =
-    on_filled (with_part f (part site t (nth_argument (place_in parameters t.kind) arguments)))
-    (λ g. replaced site parameters arguments g body)

@@ -2,6 +2,8 @@ pub mod SignNumbers
 pub mod Macros
 pub mod Compilers
 pub mod Expansion
+pub mod Pasting
+pub mod Bodies
 pub mod Machine
 pub mod Operators
 pub mod Conditions

@@ -2,8 +2,9 @@
 use Rattle.std.specs.Prelude.{ℕ, zero, suc, List, [], ◌∷◌, ◌++◌, Bool, true, false, cond, ◌||◌, bytes_eq, Option, Some, None, Result, Ok, Err, codes}
 use Rattle.semantics.specs.Core.{Site}
 use Rattle.opencl_tokens.specs.Tokens.{TokenKind, Token, Name}
-use Rattle.opencl_macros.specs.Macros.{Macro, Table, look, makes_tokens, on}
-use Rattle.opencl_macros.specs.Expansion.{Fed, Word, Behind, Active, is_active, ended, opens, Gathered, gathered, fits, Filled, filled, replaced}
+use Rattle.opencl_macros.specs.Macros.{Macro, Table, look, makes_strings, on}
+use Rattle.opencl_macros.specs.Expansion.{Fed, Word, Behind, Active, is_active, ended, opens, Gathered, gathered, fits}
+use Rattle.opencl_macros.specs.Bodies.{Filled, Supply, supply, begun, replaced}
 
 -- what is to be read, what came of it, and how many tokens may still be put in
 pub record Machine : Type 0 where
@@ -39,8 +40,8 @@ abbrev pub puts : Machine → (name : List ℕ) → Site → Option Filled → R
 puts m name site None = Err site
 puts m name site (Some f) = Ok (put_in m name f)
 
-abbrev pub enters : Machine → (name : List ℕ) → Site → Macro → (arguments : List (List Fed)) → Result Machine Site
-enters m name site macro arguments = puts m name site (replaced site macro.parameters arguments (filled [] m.left) macro.body)
+abbrev pub enters : Machine → (name : List ℕ) → Site → Macro → Supply → Result Machine Site
+enters m name site macro s = puts m name site (replaced site macro.parameters s (begun m.left) macro.body)
 
 abbrev pub goes : Result Machine Site → Result Next Site
 goes (Ok m) = Ok (Goes m)
@@ -53,11 +54,12 @@ use_of name site macro arguments = record { name = name; site = site; macro = ma
 abbrev pub calls : Machine → (name : List ℕ) → Site → Macro → (parameters : List Token) → Option Gathered → Result Next Site
 calls m name site macro parameters None = Err site
 calls m name site macro parameters (Some g) =
-    cond (fits parameters g.arguments) (Ok (Calls (use_of name site macro g.arguments) (machine_with g.rest g.active m.out m.left))) (Err site)
+    cond (fits parameters g.arguments) (Ok (Calls (use_of name site macro g.arguments) (machine_with g.rest g.active m.out m.left)))
+    (Err site)
 
 -- a function without `(` behind it is a token as others are (6.10.3p10)
 abbrev pub uses : Machine → Token → (name : List ℕ) → Macro → Option (List Token) → Result Next Site
-uses m token name macro None = goes (enters m name token.site macro [])
+uses m token name macro None = goes (enters m name token.site macro (supply [] []))
 uses m token name macro (Some parameters) =
     cond (opens m.feed) (calls m name token.site macro parameters (gathered 0 m.active [] [] m.feed)) (Ok (Goes (emitted m token false)))
 
@@ -66,12 +68,13 @@ abbrev pub meets : Machine → Token → (name : List ℕ) → Option Macro → 
 meets m token name None = Ok (Goes (emitted m token false))
 meets m token name (Some macro) =
     cond (is_active name m.active) (Ok (Goes (emitted m token true))) (
-    cond (makes_tokens macro) (Err token.site) (uses m token name macro macro.parameters))
+    cond (makes_strings macro) (Err token.site) (uses m token name macro macro.parameters))
 
 -- the place of a use and the name of the file have no token here
 abbrev pub is_left_out : (name : List ℕ) → Bool
 is_left_out name =
-    bytes_eq name (codes "__LINE__") || (bytes_eq name (codes "__FILE__") || (bytes_eq name (codes "__DATE__") || bytes_eq name (codes "__TIME__")))
+    bytes_eq name (codes "__LINE__") || (bytes_eq name (codes "__FILE__")
+    || (bytes_eq name (codes "__DATE__") || bytes_eq name (codes "__TIME__")))
 
 abbrev pub named : Table → Machine → Token → (name : List ℕ) → Result Next Site
 named table m token name = cond (is_left_out name) (Err token.site) (meets m token name (look name table None))
@@ -112,7 +115,7 @@ abbrev pub performs : Inner → Next → Result Machine Site
 performs inner (Goes m) = Ok m
 performs inner (Calls u m) =
     on (expanded_all inner u.site m.active (arguments_with [] m.left) u.arguments)
-    (λ a. enters (machine_with m.feed m.active m.out a.left) u.name u.site u.macro a.done)
+    (λ a. enters (machine_with m.feed m.active m.out a.left) u.name u.site u.macro (supply u.arguments a.done))
 
 abbrev pub expanded_with : (out : List Fed) → (left : ℕ) → Expanded
 expanded_with out left = record { out = out; left = left }

@@ -1,7 +1,7 @@
 -- Macros: names with what stands for them (C99 6.10.3).
-use Rattle.std.specs.Prelude.{ℕ, List, [], ◌∷◌, Bool, true, false, cond, ◌&&◌, ◌||◌, bytes_eq, Option, Some, None, is_some, Result, Ok, Err, codes}
+use Rattle.std.specs.Prelude.{ℕ, List, [], ◌∷◌, Bool, true, false, cond, ◌&&◌, ◌||◌, bytes_eq, Option, Some, None, is_some, Result, Ok, Err}
 use Rattle.semantics.specs.Core.{Site}
-use Rattle.opencl_tokens.specs.Signs.{Sign, Hash, HashHash}
+use Rattle.opencl_tokens.specs.Signs.{Sign, Hash}
 use Rattle.opencl_tokens.specs.Tokens.{TokenKind, Token, Name, Mark}
 use Rattle.opencl_macros.specs.SignNumbers.{same_sign}
 
@@ -42,13 +42,17 @@ abbrev pub has_mark : Sign → List Token → Bool
 has_mark sign [] = false
 has_mark sign (t ∷ ts) = is_mark sign t.kind || has_mark sign ts
 
+abbrev pub is_front : Sign → List Token → Bool
+is_front sign [] = false
+is_front sign (t ∷ ts) = is_mark sign t.kind
+
 abbrev pub is_function : Option (List Token) → Bool
 is_function None = false
 is_function (Some parameters) = true
 
--- `##`, and `#` in a function, make tokens (6.10.3.2, 6.10.3.3): a use of such a macro is left out
-abbrev pub makes_tokens : Macro → Bool
-makes_tokens macro = has_mark HashHash macro.body || (is_function macro.parameters && has_mark Hash macro.body)
+-- a `#` in a function makes a string (6.10.3.2): a use of such a macro is left out
+abbrev pub makes_strings : Macro → Bool
+makes_strings macro = is_function macro.parameters && has_mark Hash macro.body
 
 -- goes on from a part that has no fault
 abbrev pub on : {A B : Type 0} → Result A Site → (A → Result B Site) → Result B Site

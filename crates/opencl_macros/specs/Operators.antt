@@ -1,5 +1,5 @@
--- What the operators of a condition give (C99 6.10.1p4, 6.5). Numbers are those from 0 to 2^63 - 1; a condition in which a number below 0 or
--- an unsigned one matters is left out.
+-- What the operators of a condition give (C99 6.10.1p4, 6.5). Numbers are those from 0 to 2^63 - 1; a condition in which a number below 0
+-- or an unsigned one matters is left out.
 use Rattle.std.specs.Prelude.{ℕ, ◌+◌, ◌-◌, ◌*◌, ◌/◌, ◌%◌, ◌^◌, Bool, true, false, cond, not, nat_eq, nat_lt, nat_le, bit_and, bit_or, bit_xor, Option, Some, None}
 
 pub data Binary : Type 0 where

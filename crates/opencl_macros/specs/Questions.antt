@@ -1,5 +1,5 @@
 -- `defined` in a condition (C99 6.10.1p1): with its name it becomes 1 or 0, before macros are expanded (6.10.1p4).
-use Rattle.std.specs.Prelude.{ℕ, List, [], ◌∷◌, ◌++◌, Bool, true, false, cond, bytes_eq, Option, Some, None, Result, Ok, Err, codes}
+use Rattle.std.specs.Prelude.{ℕ, List, [], ◌∷◌, ◌++◌, Bool, true, false, cond, Option, Some, None, Result, Ok, Err, codes}
 use Rattle.semantics.specs.Core.{Site}
 use Rattle.opencl_tokens.specs.Signs.{LeftParenthesis, RightParenthesis}
 use Rattle.opencl_tokens.specs.Tokens.{TokenKind, Token, Name, Number}

@@ -1,17 +1,17 @@
 -- The tokens that come of a text's tokens, or the first fault (C99 6.10; the limits are ours).
-use Rattle.std.specs.Prelude.{ℕ, zero, suc, ◌+◌, List, [], ◌∷◌, ◌++◌, length, take, map, Bool, true, false, cond, not, nat_lt, ◌&&◌, ◌||◌, bytes_eq, Option, Some, None, is_some, Result, Ok, Err, codes}
+use Rattle.std.specs.Prelude.{ℕ, zero, suc, ◌+◌, List, [], ◌∷◌, ◌++◌, length, take, map, Bool, true, false, cond, not, nat_lt, ◌&&◌, ◌||◌, bytes_eq, Option, Some, None, Result, Ok, Err, codes}
 use Rattle.semantics.specs.Core.{Site}
 use Rattle.texts.specs.Tokens.{first_site}
 use Rattle.opencl_tokens.specs.Signs.{Hash}
 use Rattle.opencl_tokens.specs.Tokens.{TokenKind, Token, End}
-use Rattle.opencl_macros.specs.Macros.{Macro, Table, entry, look, is_defined, is_mark, on}
+use Rattle.opencl_macros.specs.Macros.{Macro, Table, entry, is_defined, is_mark, on}
 use Rattle.opencl_macros.specs.Expansion.{Fed, Word, Behind}
 use Rattle.opencl_macros.specs.Machine.{Expanded, expanded, is_left_out}
 use Rattle.opencl_macros.specs.Compilers.{whether_defined}
 use Rattle.opencl_macros.specs.Conditions.{holds}
 use Rattle.opencl_macros.specs.Questions.{answered}
 use Rattle.opencl_macros.specs.Questions as questions
-use Rattle.opencl_macros.specs.Directives.{Directive, Nothing, Faulty, Else, Ends, Defines, Forgets, If, ElseIf, IfDefined, directive_of}
+use Rattle.opencl_macros.specs.Directives.{Directive, Nothing, Else, Ends, Defines, Forgets, If, ElseIf, IfDefined, directive_of}
 
 -- a group of a conditional is read; it is skipped and a later one may be read; it is skipped and so are all later ones
 pub data Group : Type 0 where
@@ -89,8 +89,9 @@ defines s site name macro = cond (may_define s.table name) (with_entry s name (S
 -- names that a text may not take away (6.10.8p4)
 abbrev pub is_constant : (name : List ℕ) → Bool
 is_constant name =
-    bytes_eq name (codes "__OPENCL_VERSION__") || (bytes_eq name (codes "__OPENCL_C_VERSION__") || (bytes_eq name (codes "__ENDIAN_LITTLE__")
-    || (bytes_eq name (codes "CL_VERSION_1_0") || (bytes_eq name (codes "CL_VERSION_1_1") || bytes_eq name (codes "CL_VERSION_1_2")))))
+    bytes_eq name (codes "__OPENCL_VERSION__") || (bytes_eq name (codes "__OPENCL_C_VERSION__")
+    || (bytes_eq name (codes "__ENDIAN_LITTLE__") || (bytes_eq name (codes "CL_VERSION_1_0")
+    || (bytes_eq name (codes "CL_VERSION_1_1") || bytes_eq name (codes "CL_VERSION_1_2")))))
 
 abbrev pub may_forget : Table → (name : List ℕ) → Bool
 may_forget table name = not (is_constant name) && (not (bytes_eq name (codes "defined") || is_left_out name) && nat_lt (length table) 4096)

@@ -9,14 +9,14 @@ use Rattle.opencl_tokens.specs.Seen.{token, site}
 use Rattle.opencl_tokens.specs.declared.Token.{Token}
 use Rattle.opencl_macros.specs.Macros as macros
 use Rattle.opencl_macros.specs.Expansion as expansion
-use Rattle.opencl_macros.specs.Machine as machines
+use Rattle.opencl_macros.specs.Bodies as bodies
 use Rattle.opencl_macros.specs.declared.MacroError.{MacroError}
 use Rattle.opencl_macros.specs.declared.MacroError.TheVariants as errors
 use Rattle.opencl_macros.specs.declared.macros.Macro.{Macro}
 use Rattle.opencl_macros.specs.declared.macros.Entry.{Entry}
 use Rattle.opencl_macros.specs.declared.feed.Fed.{Fed}
 use Rattle.opencl_macros.specs.declared.feed.Fed.TheVariants as items
-use Rattle.opencl_macros.specs.declared.feed.Filled.{Filled}
+use Rattle.opencl_macros.specs.declared.bodies.Filled.{Filled}
 
 -- an answer is the definition's, unless memory was refused
 abbrev pub Fails : {X : Type 0} → MacroError → Result X core.Site → Type 0
@@ -73,9 +73,9 @@ IfRead (Ok a) P = P a
 IfRead (Err (errors.At s)) P = ⊥
 IfRead (Err errors.Memory) P = Unit {0}
 
-abbrev pub filled_seen : Filled → expansion.Filled
-filled_seen f = record { tokens = feed f.tokens.items; left = f.left }
+abbrev pub filled_seen : Filled → bodies.Filled
+filled_seen f = record { tokens = feed f.tokens.items; left = f.left; is_bare = f.is_bare; joins = f.joins }
 
-abbrev pub when_filled : (fits : Bool) → expansion.Filled → Option expansion.Filled
+abbrev pub when_filled : (fits : Bool) → bodies.Filled → Option bodies.Filled
 when_filled true f = Some f
 when_filled false f = None

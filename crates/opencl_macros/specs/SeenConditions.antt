@@ -1,5 +1,5 @@
 -- What the code answers of conditions, as the definitions have it.
-use Rattle.std.specs.Prelude.{ℕ, Bool, List, map, Option, None, Some}
+use Rattle.std.specs.Prelude.{ℕ, Bool, List, Option}
 use Rattle.std.specs.Option.{option_map}
 use denote.Ref.{Bor}
 use Rattle.opencl_tokens.specs.Tokens as tokens

@@ -1,5 +1,4 @@
 -- What the code answers of directives, as the definitions have it.
-use Rattle.std.specs.Prelude.{Option, None, Some}
 use Rattle.std.specs.Option.{option_map}
 use Rattle.opencl_macros.specs.Directives as directives
 use Rattle.opencl_macros.specs.Seen.{lent, macro, name}

@@ -1,7 +1,6 @@
 -- What the code answers of the machine, as the definitions have it.
-use Rattle.std.specs.Prelude.{ℕ, List, map, Vec, Option, None, Some}
+use Rattle.std.specs.Prelude.{Option, None, Some}
 use Rattle.std.specs.Option.{option_map}
-use Rattle.std.specs.declared.alloc.Global.{Global}
 use Rattle.opencl_tokens.specs.Seen.{site}
 use Rattle.opencl_macros.specs.Expansion as expansion
 use Rattle.opencl_macros.specs.Machine as machines

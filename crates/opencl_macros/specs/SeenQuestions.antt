@@ -1,5 +1,5 @@
 -- What the code answers of `defined`, as the definitions have it.
-use Rattle.std.specs.Prelude.{List, map, Vec, Option, None, Some}
+use Rattle.std.specs.Prelude.{List, Vec, Option}
 use Rattle.std.specs.Option.{option_map}
 use Rattle.std.specs.declared.alloc.Global.{Global}
 use Rattle.opencl_tokens.specs.Tokens as tokens

@@ -23,7 +23,8 @@ abbrev pub conditionals : List Conditional → List readings.Conditional
 conditionals cs = map conditional cs
 
 abbrev pub state : State → readings.State
-state s = record { table = table s.table.items; conditionals = conditionals s.conditionals.items; out = tokens_seen s.out.items; left = s.left }
+state s =
+    record { table = table s.table.items; conditionals = conditionals s.conditionals.items; out = tokens_seen s.out.items; left = s.left }
 
 abbrev pub held : Bool × ℕ → Bool × ℕ
 held h = h

@@ -77,11 +77,7 @@ pub fn is_compilers(name: &str) -> bool
 }
 
 /// Whether a name is defined, where the text says so.
-pub fn whether_defined(
-    entries: &[Entry<'_>],
-    site: Site,
-    name: &str,
-) -> Result<bool, MacroError>
+pub fn whether_defined(entries: &[Entry<'_>], site: Site, name: &str) -> Result<bool, MacroError>
     ensures { Gives same_flag result (meaning.whether_defined (table entries.now) (site_of site) name.now) }
 {
     if is_defined(name, entries) {

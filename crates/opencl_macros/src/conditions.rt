@@ -9,7 +9,7 @@ ghost use Rattle.opencl_macros.specs.Seen.{tokens_seen, Gives};
 ghost use Rattle.opencl_macros.specs.SeenConditions.{binary as binary_seen, maybe_binary, part as part_seen, same_flag, same_value, value_rest};
 
 use crate::compilers::is_compilers;
-use crate::macros::is_mark;
+use crate::macros::is_front;
 use crate::operators::{Binary, binary_value, choice, negated, negative, tightness};
 use crate::{MacroError, Token, TokenKind};
 use opencl_tokens::{Lexeme, LexemeKind, Literal, Sign, Site, TokenError, lexemes};
@@ -59,12 +59,6 @@ fn literal(alloc: Global, tokens: &[Token<'_>]) -> Result<Option<u64>, MacroErro
         Err(TokenError::Memory) => Err(MacroError::Memory),
         Err(TokenError::At { .. }) => Ok(None),
     }
-}
-
-pub fn is_front(wanted: Sign, tokens: &[Token<'_>]) -> bool
-    ensures { result ≡ meaning.is_front (sign_of wanted) (tokens_seen tokens.now) }
-{
-    !tokens.is_empty() && is_mark(wanted, tokens[0].kind)
 }
 
 pub fn behind<'a>(tokens: &'a [Token<'a>]) -> &'a [Token<'a>]

@@ -8,8 +8,8 @@ ghost use Rattle.opencl_macros.specs.Directives as meaning;
 ghost use Rattle.opencl_macros.specs.Seen.{lent, name as name_seen, tokens_seen};
 ghost use Rattle.opencl_macros.specs.SeenDirectives.{directive};
 
-use crate::conditions::{behind, is_front};
-use crate::macros::{Macro, is_mark, is_name};
+use crate::conditions::behind;
+use crate::macros::{Macro, is_front, is_mark, is_name};
 use crate::{Token, TokenKind};
 use opencl_tokens::Sign;
 
@@ -152,7 +152,6 @@ fn function_with<'a>(
 }
 
 /// What stands behind the `(` of a function.
-
 fn function<'a>(name: &'a str, tokens: &'a [Token<'a>]) -> Directive<'a>
     ensures { directive result ≡ meaning.function name.now (tokens_seen tokens.now) }
 {

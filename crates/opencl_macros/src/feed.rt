@@ -4,9 +4,9 @@ ghost use Rattle.std.specs.Prelude.{◌≡◌, []};
 ghost use Rattle.std.specs.Option.{option_map};
 ghost use Rattle.opencl_tokens.specs.Seen.{site as site_of, token as token_of, token_kind};
 ghost use Rattle.opencl_macros.specs.Expansion as meaning;
-ghost use Rattle.opencl_macros.specs.Seen.{active as active_seen, arguments as arguments_seen, feed as feed_seen, filled_seen, gathered_seen, lent, lent_feed, macro, tokens_seen, when_filled, Gives, IfRead};
+ghost use Rattle.opencl_macros.specs.Seen.{active as active_seen, arguments as arguments_seen, feed as feed_seen, gathered_seen, lent, lent_feed, tokens_seen, Gives, IfRead};
 
-use crate::macros::{Macro, is_mark, is_name};
+use crate::macros::{is_mark, is_name};
 use crate::{MacroError, Token, TokenKind};
 use opencl_tokens::{Sign, Site};
 use std::alloc::Global;
@@ -38,7 +38,7 @@ pub fn leave(active: &mut Vec<&str>)
 }
 
 /// A token of a body has the place of the use.
-fn moved<'a>(site: Site, token: Token<'a>) -> Token<'a>
+pub fn moved<'a>(site: Site, token: Token<'a>) -> Token<'a>
     ensures { token_of result ≡ meaning.moved (site_of site) (token_of token.entry) }
 {
     Token {
@@ -202,7 +202,7 @@ fn place_of(name: &str, parameters: &[Token<'_>]) -> Option<usize>
     None
 }
 
-fn place_in(parameters: Option<&[Token<'_>]>, kind: TokenKind<'_>) -> Option<usize>
+pub fn place_in(parameters: Option<&[Token<'_>]>, kind: TokenKind<'_>) -> Option<usize>
     ensures { result ≡ meaning.place_in (option_map lent parameters.entry) (token_kind kind.entry) }
 {
     match parameters {
@@ -215,7 +215,7 @@ fn place_in(parameters: Option<&[Token<'_>]>, kind: TokenKind<'_>) -> Option<usi
 }
 
 /// The argument of that place.
-fn nth_argument<'b, 'a>(
+pub fn nth_argument<'b, 'a>(
     place: Option<usize>,
     arguments: &'b [Vec<Fed<'a>>],
 ) -> Option<&'b [Fed<'a>]>
@@ -231,62 +231,4 @@ fn nth_argument<'b, 'a>(
             }
         }
     }
-}
-
-/// What is put in, and how many tokens may still be put in.
-#[derive(Drop)]
-pub struct Filled<'a> {
-    pub tokens: Vec<Fed<'a>>,
-    pub left: usize,
-}
-
-/// Tokens more; false where there are too many.
-fn put_part<'a>(filled: &mut Filled<'a>, tokens: &[Fed<'a>]) -> Result<bool, MacroError>
-    ensures { IfRead result (λ fits. when_filled fits (filled_seen filled.new) ≡ meaning.with_part (filled_seen filled.old) (feed_seen tokens.now)) }
-{
-    if tokens.len() <= filled.left {
-        filled.tokens.extend_from_slice(tokens)?;
-        filled.left -= tokens.len();
-        Ok(true)
-    } else {
-        Ok(false)
-    }
-}
-
-/// The argument of a token that is a parameter, or else the token.
-fn put_one<'a>(
-    site: Site,
-    parameters: Option<&[Token<'_>]>,
-    arguments: &[Vec<Fed<'a>>],
-    token: Token<'a>,
-    filled: &mut Filled<'a>,
-) -> Result<bool, MacroError>
-    ensures { IfRead result (λ fits. when_filled fits (filled_seen filled.new) ≡ meaning.with_part (filled_seen filled.old) (meaning.part (site_of site) (token_of token.entry) (meaning.nth_argument (meaning.place_in (option_map lent parameters.entry) (token_kind token.entry.kind)) (arguments_seen arguments.now)))) }
-{
-    match nth_argument(place_in(parameters, token.kind), arguments) {
-        None => put_part(filled, &[Fed::Word(moved(site, token), false)]),
-        Some(argument) => put_part(filled, argument),
-    }
-}
-
-/// What is put in for the use of a macro; none where it is too much.
-pub fn replaced<'a>(
-    alloc: Global,
-    site: Site,
-    used: Macro<'a>,
-    arguments: &[Vec<Fed<'a>>],
-    left: usize,
-) -> Result<Option<Filled<'a>>, MacroError>
-    ensures { IfRead result (λ found. option_map filled_seen found ≡ meaning.replaced (site_of site) (macro used.entry).parameters (arguments_seen arguments.now) (meaning.filled [] left) (macro used.entry).body) }
-{
-    let mut filled = Filled {
-        tokens: Vec::new(alloc),
-        left,
-    };
-    for token in used.body {
-        if !put_one(site, used.parameters, arguments, *token, &mut filled)? {
-            return Ok(None);
-        }
-    }
-    Ok(Some(filled))
 }

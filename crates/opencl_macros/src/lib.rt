@@ -5,6 +5,7 @@
 
 ghost use Rattle.std.specs.Prelude.{◌≡◌};
 
+mod bodies;
 mod compilers;
 mod conditions;
 mod directives;
@@ -13,6 +14,7 @@ mod machine;
 mod macros;
 mod marks;
 mod operators;
+mod pasting;
 mod questions;
 mod reading;
 

@@ -2,22 +2,26 @@
 
 ghost use Rattle.std.specs.Prelude.{◌≡◌, ◌++◌, []};
 ghost use Rattle.opencl_tokens.specs.Seen.{site as site_of, token as token_of, token_kind};
+ghost use Rattle.opencl_macros.specs.Bodies.{supply};
 ghost use Rattle.opencl_macros.specs.Expansion.{gathered as gathered_of};
 ghost use Rattle.opencl_macros.specs.Machine as meaning;
 ghost use Rattle.opencl_macros.specs.Seen.{active as active_seen, arguments as arguments_seen, feed as feed_seen, fed as fed_seen, filled_seen, macro, table as table_seen, tokens_seen, Gives, IfRead};
 ghost use Rattle.opencl_macros.specs.SeenMachine.{machine as machine_seen, call as call_seen, next as next_seen, done_seen, expansion_seen, machine_came, took};
 
-use crate::feed::{Fed, Filled, fits, gathered, is_active, leave, opens, replaced};
-use crate::macros::{Entry, Macro, look, makes_tokens};
+use crate::bodies::{Filled, replaced};
+use crate::feed::{Fed, fits, gathered, is_active, leave, opens};
+use crate::macros::{Entry, Macro, look, makes_strings};
 use crate::{MacroError, Token, TokenKind};
+use bumpalo::Bump;
 use opencl_tokens::Site;
 use std::alloc::Global;
 use std::collections::VecDeque;
 
 /// What is to be read, the macros whose expansion has not ended, the inner one last, what came out, and how many tokens may still be put
-/// in.
+/// in; the pool has the bytes of tokens that were two.
 #[derive(Drop)]
 pub struct Machine<'a> {
+    pub pool: &'a Bump,
     pub feed: VecDeque<Fed<'a>>,
     pub active: Vec<&'a str>,
     pub out: Vec<Fed<'a>>,
@@ -68,18 +72,19 @@ fn put<'a>(m: &mut Machine<'a>, name: &'a str, filled: &Filled<'a>) -> Result<()
     Ok(())
 }
 
-/// Tokens are put in for a use.
+/// Tokens are put in for a use, with its arguments as they stand and expanded.
 fn enter<'a>(
     alloc: Global,
     m: &mut Machine<'a>,
     name: &'a str,
     site: Site,
     used: Macro<'a>,
-    arguments: &[Vec<Fed<'a>>],
+    given: &[Vec<Fed<'a>>],
+    expanded: &[Vec<Fed<'a>>],
 ) -> Result<(), MacroError>
-    ensures { Gives (λ u. machine_seen m.new) result (meaning.enters (machine_seen m.old) name.entry.now (site_of site) (macro used.entry) (arguments_seen arguments.now)) }
+    ensures { Gives (λ u. machine_seen m.new) result (meaning.enters (machine_seen m.old) name.entry.now (site_of site) (macro used.entry) (supply (arguments_seen given.now) (arguments_seen expanded.now))) }
 {
-    match replaced(alloc, site, used, arguments, m.left)? {
+    match replaced(alloc, m.pool, site, used, given, expanded, m.left)? {
         None => Err(MacroError::At(site)),
         Some(filled) => put(m, name, &filled),
     }
@@ -124,7 +129,7 @@ fn use_macro<'a>(
 {
     match used.parameters {
         None => {
-            enter(alloc, m, name, token.site, used, &[])?;
+            enter(alloc, m, name, token.site, used, &[], &[])?;
             Ok(None)
         }
         Some(parameters) => {
@@ -152,7 +157,7 @@ fn meet<'a>(
         emit(m, token, true)?;
         return Ok(None);
     }
-    if makes_tokens(used) {
+    if makes_strings(used) {
         return Err(MacroError::At(token.site));
     }
     use_macro(alloc, m, token, name, used)
@@ -236,6 +241,7 @@ const STEPS: u32 = 4_194_304;
 #[cycle(expansion)]
 pub fn expanded<'a>(
     alloc: Global,
+    pool: &'a Bump,
     depth: u32,
     entries: &[Entry<'a>],
     site: Site,
@@ -248,7 +254,7 @@ pub fn expanded<'a>(
     if depth == 0 {
         return Err(MacroError::At(site));
     }
-    let mut m = fed_with(alloc, active, left, tokens)?;
+    let mut m = fed_with(alloc, pool, active, left, tokens)?;
     run(alloc, depth - 1, entries, site, &mut m)?;
     Ok(Expansion {
         out: m.out,
@@ -315,6 +321,7 @@ fn perform<'a>(
 {
     let found = expanded_all(
         alloc,
+        m.pool,
         depth,
         entries,
         call.site,
@@ -323,7 +330,15 @@ fn perform<'a>(
         &call.arguments,
     )?;
     m.left = found.left;
-    enter(alloc, m, call.name, call.site, call.used, &found.done)
+    enter(
+        alloc,
+        m,
+        call.name,
+        call.site,
+        call.used,
+        &call.arguments,
+        &found.done,
+    )
 }
 
 /// Arguments that are expanded, and how many tokens may still be put in.
@@ -338,6 +353,7 @@ struct Arguments<'a> {
 #[tactic(auto, using(crate::proofs::Handing::handed))]
 fn expanded_all<'a>(
     alloc: Global,
+    pool: &'a Bump,
     depth: u32,
     entries: &[Entry<'a>],
     site: Site,
@@ -352,7 +368,9 @@ fn expanded_all<'a>(
         left,
     };
     for argument in arguments {
-        let one = expanded(alloc, depth, entries, site, found.left, active, argument)?;
+        let one = expanded(
+            alloc, pool, depth, entries, site, found.left, active, argument,
+        )?;
         found.done.push(one.out)?;
         found.left = one.left;
     }
@@ -362,6 +380,7 @@ fn expanded_all<'a>(
 /// A machine that reads these.
 fn fed_with<'a>(
     alloc: Global,
+    pool: &'a Bump,
     active: &[&'a str],
     left: usize,
     tokens: &[Fed<'a>],
@@ -373,6 +392,7 @@ fn fed_with<'a>(
         feed.push_back(*token)?;
     }
     Ok(Machine {
+        pool,
         feed,
         active: Vec::from_slice(alloc, active)?,
         out: Vec::new(alloc),

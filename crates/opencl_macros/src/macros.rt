@@ -73,6 +73,12 @@ fn has_mark(wanted: Sign, tokens: &[Token<'_>]) -> bool
     false
 }
 
+pub fn is_front(wanted: Sign, tokens: &[Token<'_>]) -> bool
+    ensures { result ≡ meaning.is_front (sign wanted) (tokens_seen tokens.now) }
+{
+    !tokens.is_empty() && is_mark(wanted, tokens[0].kind)
+}
+
 fn is_function(parameters: Option<&[Token<'_>]>) -> bool
     ensures { result ≡ meaning.is_function (option_map lent parameters.entry) }
 {
@@ -82,10 +88,9 @@ fn is_function(parameters: Option<&[Token<'_>]>) -> bool
     }
 }
 
-/// A use of the macro would make new tokens.
-pub fn makes_tokens(used: Macro<'_>) -> bool
-    ensures { result ≡ meaning.makes_tokens (macro used.entry) }
+/// A use of the macro would make a string.
+pub fn makes_strings(used: Macro<'_>) -> bool
+    ensures { result ≡ meaning.makes_strings (macro used.entry) }
 {
-    has_mark(Sign::HashHash, used.body)
-        || (is_function(used.parameters) && has_mark(Sign::Hash, used.body))
+    is_function(used.parameters) && has_mark(Sign::Hash, used.body)
 }

@@ -19,6 +19,7 @@ use crate::machine::{Expansion, expanded, is_left_out};
 use crate::macros::{Entry, Macro, is_defined, is_mark};
 use crate::questions::answered;
 use crate::{MacroError, Token, TokenKind};
+use bumpalo::Bump;
 use opencl_tokens::{Sign, Site};
 use std::alloc::Global;
 use std::collections::VecDeque;
@@ -39,9 +40,11 @@ struct Conditional {
     is_last: bool,
 }
 
-/// The macros, the conditionals that are open, the inner one first, what came out, and how many tokens may still be put in for macros.
+/// The macros, the conditionals that are open, the inner one first, what came out, and how many tokens may still be put in for macros; the
+/// pool has the bytes of tokens that were two.
 #[derive(Drop)]
 struct State<'a> {
+    pool: &'a Bump,
     table: Vec<Entry<'a>>,
     conditionals: VecDeque<Conditional>,
     out: Vec<Token<'a>>,
@@ -122,7 +125,7 @@ fn expand<'a>(
     ensures { Gives expansion_seen result (meaning.expand (site_of site) (state s.now) (tokens_seen tokens.now)) }
 {
     let fed = fed_tokens(alloc, tokens)?;
-    expanded(alloc, DEPTH, &s.table, site, s.left, &[], &fed)
+    expanded(alloc, s.pool, DEPTH, &s.table, site, s.left, &[], &fed)
 }
 
 /// Lines of text between directives are expanded together.
@@ -502,7 +505,6 @@ fn first_of<'a>(tokens: &[Token<'a>]) -> Token<'a>
 }
 
 /// The first piece, and how many tokens behind its first one belong to it.
-
 fn take_piece<'a>(
     alloc: Global,
     s: &mut State<'a>,
@@ -536,10 +538,11 @@ fn read<'a>(alloc: Global, s: &mut State<'a>, tokens: &'a [Token<'a>]) -> Result
     Ok(())
 }
 
-fn state_with<'a>(alloc: Global, table: Vec<Entry<'a>>) -> State<'a>
+fn state_with<'a>(alloc: Global, pool: &'a Bump, table: Vec<Entry<'a>>) -> State<'a>
     ensures { state result ≡ meaning.start (table_seen table.entry.items) }
 {
     State {
+        pool,
         table,
         conditionals: VecDeque::new(alloc),
         out: Vec::new(alloc),
@@ -548,10 +551,14 @@ fn state_with<'a>(alloc: Global, table: Vec<Entry<'a>>) -> State<'a>
 }
 
 /// The table behind definitions that are given; their faults are told at the text's beginning.
-fn given_table<'a>(alloc: Global, given: &'a [Token<'a>]) -> Result<Vec<Entry<'a>>, MacroError>
+fn given_table<'a>(
+    alloc: Global,
+    pool: &'a Bump,
+    given: &'a [Token<'a>],
+) -> Result<Vec<Entry<'a>>, MacroError>
     ensures { Gives table_of result (meaning.table_of (meaning.read 0 (meaning.start []) (tokens_seen given.now))) }
 {
-    let mut s = state_with(alloc, Vec::new(alloc));
+    let mut s = state_with(alloc, pool, Vec::new(alloc));
     match read(alloc, &mut s, given) {
         Ok(()) => Ok(s.table),
         Err(MacroError::At(_)) => Err(MacroError::At(Site { line: 1, column: 1 })),
@@ -572,26 +579,29 @@ fn finished<'a>(s: State<'a>) -> Result<Vec<Token<'a>>, MacroError>
 #[tactic(auto, using(crate::proofs::Handing::handed))]
 fn read_text<'a>(
     alloc: Global,
+    pool: &'a Bump,
     table: Vec<Entry<'a>>,
     tokens: &'a [Token<'a>],
 ) -> Result<Vec<Token<'a>>, MacroError>
     ensures { Gives tokens_of result (meaning.read_text (table_seen table.entry.items) (tokens_seen tokens.now)) }
 {
-    let mut s = state_with(alloc, table);
+    let mut s = state_with(alloc, pool, table);
     read(alloc, &mut s, tokens)?;
     finished(s)
 }
 
 /// The tokens that come of a text's tokens behind definitions that are given, or the place of the first fault (C99 6.10). It is at a
-/// directive, or at the use of a macro; faults of the definitions are told at the text's beginning.
+/// directive, or at the use of a macro; faults of the definitions are told at the text's beginning. The pool gets the bytes of tokens that
+/// were two.
 #[tactic(auto, unfolding(crate::specs::Reading::preprocessed), using(crate::proofs::Handing::handed))]
 pub fn preprocessed<'a>(
     alloc: Global,
+    pool: &'a Bump,
     given: &'a [Token<'a>],
     tokens: &'a [Token<'a>],
 ) -> Result<Vec<Token<'a>>, MacroError>
     ensures { Gives tokens_of result (meaning.preprocessed (tokens_seen given.now) (tokens_seen tokens.now)) }
 {
-    let table = given_table(alloc, given)?;
-    read_text(alloc, table, tokens)
+    let table = given_table(alloc, pool, given)?;
+    read_text(alloc, pool, table, tokens)
 }

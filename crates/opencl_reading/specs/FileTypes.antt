@@ -2,13 +2,14 @@
 -- What cannot be meant (a pointer's type, a constant that is no number of the text) stays without a meaning.
 use Rattle.std.specs.Prelude.{ℕ, ◌+◌, List, [], ◌∷◌, ◌++◌, Bool, true, false, cond, not, ◌&&◌, Option, None, Some, Result, Ok, Err}
 use Rattle.semantics.specs.Word.{Kind}
+use Rattle.semantics.specs.Core.{Term}
 use Rattle.opencl_tree.specs.Types.{Space, Qualifiers}
 use Rattle.opencl_tree.specs.Tree.{Expression, Declarator, Declaration}
-use Rattle.opencl_terms.specs.Types.{ValueType}
+use Rattle.opencl_terms.specs.Types.{ValueType, Value}
 use Rattle.opencl_files.specs.FileTree.{Enumerator, KernelText}
 use Rattle.opencl_values.specs.Faults.{Checked}
-use Rattle.opencl_values.specs.Scope.{TypeOf, NumberOf, Binding}
-use Rattle.opencl_values.specs.Singles.{Single}
+use Rattle.opencl_values.specs.Scope.{TypeOf, NumberOf, Binding, Names}
+use Rattle.opencl_values.specs.Wholes.{single_in}
 use Rattle.opencl_values.specs.Names.{type_of_base}
 use Rattle.opencl_values.specs.Values.{value_of}
 use Rattle.opencl_core.specs.Constants.{constant_of, small}
@@ -38,13 +39,16 @@ with_aliases [] bs = bs
 with_aliases (d ∷ ds) bs = with_aliases ds (with_declarators d d.declarators bs)
 
 -- the number of the text that an expression is
-abbrev pub number_in : Checked Single → Option ℕ
-number_in (Ok v) = constant_of v.term
+abbrev pub number_in : Checked Value → Option ℕ
+number_in (Ok v) = constant_of (single_in v).term
 number_in (Err e) = None
+
+abbrev pub names_of : (ids : Kind) → List Binding → Names
+names_of ids bs = record { ids = ids; visible = bs; drawn = [] }
 
 abbrev pub number_of : (ids : Kind) → List Binding → (next : Option ℕ) → Option Expression → Option ℕ
 number_of ids bs next None = next
-number_of ids bs next (Some e) = number_in (value_of ids bs e)
+number_of ids bs next (Some e) = number_in (value_of (names_of ids bs) e)
 
 abbrev pub following : Option ℕ → Option ℕ
 following None = None

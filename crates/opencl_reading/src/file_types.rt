@@ -14,8 +14,9 @@ use opencl_tree::tree::{Declaration, Declarator, Expr};
 use opencl_tree::types::Qualifiers;
 use opencl_values::error::ValueError;
 use opencl_values::names::type_of_base;
-use opencl_values::scope::{Binding, Meaning};
+use opencl_values::scope::{Binding, Meaning, Names};
 use opencl_values::values::value_of;
+use opencl_values::wholes::single_in;
 use std::alloc::{AllocError, Global};
 use words::Kind;
 
@@ -84,10 +85,15 @@ fn number_in(
     visible: &[Binding],
     of: &Expr,
 ) -> Result<Option<u32>, AllocError>
-    ensures { IfOk result (λ n. n ≡ rules.number_in (value_rules.value_of (kind_seen ids) (bindings visible.now) (expression of.now))) }
+    ensures { IfOk result (λ n. n ≡ rules.number_in (value_rules.value_of (rules.names_of (kind_seen ids) (bindings visible.now)) (expression of.now))) }
 {
-    match value_of(alloc, ids, visible, of) {
-        Ok(value) => Ok(constant_of(&value.term)),
+    let names = Names {
+        ids,
+        visible,
+        drawn: &[],
+    };
+    match value_of(alloc, names, of) {
+        Ok(value) => Ok(constant_of(&single_in(value).term)),
         Err(ValueError::At { .. }) => Ok(None),
         Err(ValueError::Memory) => Err(AllocError),
     }

@@ -31,6 +31,7 @@ use crate::file_types::push_meant;
 use crate::heads::{agreed, are_locals, counts};
 use crate::kinds::tells_parameters;
 use crate::names::{names_in, unread};
+use bumpalo::Bump;
 use core_code::tree::Site;
 use kernel_names::site_at;
 use launch_text::head::Head;
@@ -226,7 +227,8 @@ fn with_given<'a>(
 ) -> Result<Typed, OpenClError>
     ensures { Gives result (kernels.with_given (kind_seen ids) (head_seen head.now) (map token_seen found.now) (map token_seen given.now)) }
 {
-    match preprocessed(alloc, given, found) {
+    let pool = Bump::new(alloc);
+    match preprocessed(alloc, &pool, given, found) {
         Ok(out) => of_expanded(alloc, ids, head, &out),
         Err(MacroError::At(site)) => Err(OpenClError::Text(TokenError::At {
             fault: TextFault::Preprocessor,

@@ -91,7 +91,12 @@ const REFUSED: &[(&str, &str, &str)] = &[
     ("float4 n; }", "}", "15 1:8 LeftOut(Vector)"),
     ("__local int *n; }", "}", "35 1:14 LocalLength"),
     ("int *n; }", "}", "22 1:6 WrongType"),
-    ("int n; }", "float4 v; }", "15 1:8 LeftOut(Vector)"),
+    ("int n; }", "int2 v = 1; v.xx = v; }", "22 1:15 WrongType"),
+    (
+        "int n; }",
+        "int2 v = 1; if (v) n = 1; }",
+        "22 1:17 WrongType",
+    ),
     ("int n; }", "int get_global_id; }", "21 1:5 NameTwice"),
 ];
 

@@ -5,14 +5,14 @@ use opencl_parser::expression_of;
 use opencl_terms::scalars::{Scalar, ValueType};
 use opencl_tokens::{Joined, Lexeme, Token, join, lexemes, tokens};
 use opencl_tree::tree::Expr;
-use opencl_values::scope::{Binding, Meaning};
-use opencl_values::singles::Single;
+use opencl_values::scope::{Binding, Meaning, Names};
 use opencl_values::values::value_of;
+use opencl_values::wholes::Value;
 use std::alloc::{AllocError, Global};
 use std::test::Fail;
 use words::Kind;
 
-/// Expressions, each with its scalar and its term, or its fault. `i` is an `int`, `u` a `uint`, `f` a `float`, `n` a `size_t`, `c` a `char`,
+/// Expressions, each with its scalar and its terms, or its fault. `i` is an `int`, `u` a `uint`, `f` a `float`, `n` a `size_t`, `c` a `char`,
 /// `a` a buffer of floats, `b` one of `char`, `t` a local `int[4][8]`, `v` a `float4`, `byte` a name for `uchar`, `LAST` a constant.
 const EXPRESSIONS: &[(&str, &str)] = &[
     ("i + u", "Uint (+ Uint v0 v1)"),
@@ -49,7 +49,34 @@ const EXPRESSIONS: &[(&str, &str)] = &[
     ("a[f]", "22 1:2"),
     ("i[0]", "22 1:1"),
     ("a", "15 1:1"),
-    ("v", "15 1:1"),
+    ("v", "Float v5 v6 v7 v8"),
+    ("v.zw.yx", "Float v8 v7"),
+    ("v.odd.lo", "Float v6"),
+    ("v.sA", "22 1:2"),
+    ("(float2)(v.w, 1)", "Float v8 (opaque2 Uint Int:1 Uint:0)"),
+    ("(float4)(v.xyz)", "22 1:1"),
+    (
+        "-(float2)(f)",
+        "Float (opaque1 Uint v2 Uint:0) (opaque1 Uint v2 Uint:0)",
+    ),
+    (
+        "v.xy < f",
+        "Int (- Int (!= Uint (opaque16 Uint v5 v2) Uint:0)) (- Int (!= Uint (opaque16 Uint v6 v2) Uint:0))",
+    ),
+    (
+        "(uchar2)(c) + (uchar2)(i, 1)",
+        "Uchar (to Int (& Uint (+ Uint (to Int (& Uint (to Uint v4) Uint:255)) (to Int (& Uint (to Uint v0) Uint:255))) Uint:255)) (to Int (& Uint (+ Uint (to Int (& Uint (to Uint v4) Uint:255)) (to Int (& Uint (to Uint Int:1) Uint:255))) Uint:255))",
+    ),
+    (
+        "fmin(v.xy, f)",
+        "Float (opaque126 Uint v5 v2) (opaque126 Uint v6 v2)",
+    ),
+    (
+        "dot(v.xy, v.zw)",
+        "Float (opaque176 Uint (opaque176 Uint (opaque176 Uint (opaque176 Uint Uint:0 v5) v6) v7) v8)",
+    ),
+    ("v ? v : v", "22 1:3"),
+    ("sizeof(float3)", "Size Size:16"),
     ("x", "20 1:1"),
     ("byte", "22 1:1"),
     ("LAST", "Int (- Int (- Int Int:0) Int:1)"),
@@ -103,7 +130,7 @@ const EXPRESSIONS: &[(&str, &str)] = &[
     ("frexp(f, a)", "15 1:1"),
     ("i(1)", "22 1:1"),
     ("i++", "15 1:2"),
-    ("f.x", "15 1:2"),
+    ("f.x", "22 1:2"),
     ("true", "Int Int:1"),
 ];
 
@@ -166,15 +193,24 @@ fn names(alloc: Global) -> Result<Vec<Binding<'static>>, AllocError> {
     Ok(names)
 }
 
-fn push_value(out: &mut String, value: &Single) -> Result<(), AllocError> {
-    let scalar = value.scalar;
-    write!(out, "{scalar:?} ")?;
-    push_term(out, &value.term)
+fn push_value(out: &mut String, value: &Value) -> Result<(), AllocError> {
+    let scalar = value.of.scalar;
+    write!(out, "{scalar:?}")?;
+    for term in &value.terms {
+        out.push_str(" ")?;
+        push_term(out, term)?;
+    }
+    Ok(())
 }
 
 fn push_expression(alloc: Global, out: &mut String, tree: &Expr) -> Result<(), AllocError> {
     let names = names(alloc)?;
-    match value_of(alloc, Kind::Size, names.as_slice(), tree) {
+    let known = Names {
+        ids: Kind::Size,
+        visible: names.as_slice(),
+        drawn: &[],
+    };
+    match value_of(alloc, known, tree) {
         Ok(value) => push_value(out, &value),
         Err(error) => write!(out, "{error}"),
     }

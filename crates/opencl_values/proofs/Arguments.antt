@@ -9,17 +9,23 @@ use Rattle.opencl_tree.specs.Tree as tree
 use Rattle.opencl_tree.specs.View.{expression, expressions}
 use Rattle.opencl_tree.specs.declared.tree.Expr.{Expr}
 use Rattle.opencl_values.specs.Calls.{argument_in, dimension_of}
-use Rattle.opencl_values.specs.Faults.{WrongType, refused}
+use Rattle.opencl_values.specs.Faults.{WrongType, refused, then}
+use Rattle.opencl_values.specs.Reads.{vector_at}
 use Rattle.opencl_values.specs.Singles.{as_scalar}
-use Rattle.opencl_values.specs.View.{single, values}
+use Rattle.opencl_values.specs.Scope.{Names}
+use Rattle.opencl_values.specs.Values.{value_of, part_of, vector_read}
+use Rattle.opencl_values.specs.VectorCalls.{wide_result}
+use Rattle.opencl_values.specs.View.{single, singles_seen, values}
+use Rattle.opencl_values.specs.Widened.{Wide}
 use Rattle.opencl_values.specs.declared.singles.Single.{Single}
+use Rattle.opencl_values.specs.declared.wholes.Value.{Value}
 
-pub argument_in-past : (ids : word.Kind) (to : types.Scalar) (site : core.Site) (vs : List Single) (n : ℕ) → length vs ≤ n → argument_in ids to site (values vs) n ≡ operations.nothing
+pub argument_in-past : (ids : word.Kind) (to : types.Scalar) (site : core.Site) (vs : List Single) (n : ℕ) → length vs ≤ n → argument_in ids to site (singles_seen vs) n ≡ operations.nothing
 argument_in-past ids to site [] n h = refl
 argument_in-past ids to site (v ∷ vs) zero h = absurd (omega arith)
 argument_in-past ids to site (v ∷ vs) (suc n) h = argument_in-past ids to site vs n (omega arith)
 
-pub argument_in-at : (ids : word.Kind) (to : types.Scalar) (site : core.Site) (vs : List Single) (n : ℕ) (d : Single) → n < length vs → argument_in ids to site (values vs) n ≡ as_scalar ids to site (single (get_or vs n d))
+pub argument_in-at : (ids : word.Kind) (to : types.Scalar) (site : core.Site) (vs : List Single) (n : ℕ) (d : Single) → n < length vs → argument_in ids to site (singles_seen vs) n ≡ as_scalar ids to site (single (get_or vs n d))
 argument_in-at ids to site [] n d h = absurd (omega arith)
 argument_in-at ids to site (v ∷ vs) zero d h = refl
 argument_in-at ids to site (v ∷ vs) (suc n) d h = argument_in-at ids to site vs n d (omega arith)
@@ -41,3 +47,26 @@ expressions-one (e ∷ []) d h = refl
 expressions-one (e ∷ x ∷ es) d h = absurd (omega arith)
 
 pub ruleset one_argument = (dimension_of-many, expressions-one)
+
+pub vector_read-other : (names : Names) (site : core.Site) (n : ℕ) (es : List Expr) → length es ≢ 2 → vector_read names site n (expressions es) ≡ refused WrongType site
+unfolding vector_read
+vector_read-other names site n [] h = refl
+vector_read-other names site n (e ∷ []) h = refl
+vector_read-other names site n (e ∷ x ∷ []) h = absurd (h refl)
+vector_read-other names site n (e ∷ x ∷ y ∷ es) h = refl
+
+pub wide_result-other : (ids : word.Kind) (w : Wide) (site : core.Site) (vs : List Value) → length vs ≢ 1 → wide_result ids w site (values vs) ≡ refused WrongType site
+wide_result-other ids w site [] h = refl
+wide_result-other ids w site (v ∷ []) h = absurd (h refl)
+wide_result-other ids w site (v ∷ u ∷ vs) h = refl
+
+pub vector_read-two : (names : Names) (site : core.Site) (n : ℕ) (es : List Expr) (d : Expr) → length es ≡ 2 → vector_read names site n (expressions es) ≡ then (value_of names (expression (get_or es 0 d))) (λ v. then (part_of names site (expression (get_or es 1 d))) (vector_at names.ids site n v))
+unfolding vector_read
+vector_read-two names site n [] d h = absurd (omega arith)
+vector_read-two names site n (e ∷ []) d h = absurd (omega arith)
+vector_read-two names site n (e ∷ x ∷ []) d h = refl
+vector_read-two names site n (e ∷ x ∷ y ∷ es) d h = absurd (omega arith)
+
+pub ruleset read_arguments = (vector_read-other, vector_read-two)
+
+pub ruleset other_arguments = (wide_result-other)

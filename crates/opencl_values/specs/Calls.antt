@@ -5,13 +5,13 @@ use Rattle.semantics.specs.Word as word
 use Rattle.semantics.specs.Word.{Kind}
 use Rattle.semantics.specs.Core.{Site, Function, Term, Literal, Id, Unary, Binary, Convert, Compare, And, Select, Minimum, Maximum, Opaque}
 use Rattle.opencl_tree.specs.Tree.{Expression, Integer, Expressions, nothing, also}
-use Rattle.opencl_terms.specs.Types.{Scalar, Int, Uint, Size, Float, promoted, common, is_float, kind_of}
-use Rattle.opencl_terms.specs.Conversions.{int, uint}
+use Rattle.opencl_terms.specs.Types.{Scalar, Int, Uint, Size, Float, promoted, common, is_float, is_narrow, kind_of}
+use Rattle.opencl_terms.specs.Conversions.{int, uint, narrowed}
 use Rattle.opencl_terms.specs.Operations as operations
 use Rattle.opencl_values.specs.Faults.{Checked, WrongType, LeftOut, refused, then, when}
 use Rattle.opencl_values.specs.Singles.{Single, single, as_scalar}
 use Rattle.opencl_values.specs.Saturation.{saturated_from, reread, has_bits_of}
-use Rattle.opencl_values.specs.Functions.{Form, IdOf, Converts, Saturates, BitsAs, Integers, Floats, Tests, Offset, Lesser, Greater, Clamped, Absolute, Product24, Sum24, Scaled, FromBits, Exponent, Missing, count_of}
+use Rattle.opencl_values.specs.Functions.{Form, IdOf, Converts, Saturates, BitsAs, Integers, Floats, Tests, Reduces, Spreads, Offset, Lesser, Greater, Clamped, Absolute, Product24, Sum24, Scaled, FromBits, Exponent, Missing, count_of}
 
 -- a call: the kind of sizes, the number of the operation, the scalar of all arguments, where it stands, the arguments
 pub record Call : Type 0 where
@@ -40,8 +40,9 @@ kind_in c = kind_of c.ids c.to
 abbrev pub unreckoned_as : (to : Scalar) → (gives : Kind) → Call → Term
 unreckoned_as to k c = Opaque c.operation 0 k (argument_as to c 0) (argument_as to c 1) (argument_as to c 2)
 
+-- a narrow component is the low bits of a word that is not reckoned
 abbrev pub unreckoned : Call → Term
-unreckoned c = unreckoned_as c.to (kind_in c) c
+unreckoned c = cond (is_narrow c.to) (narrowed c.to c.site (unreckoned_as c.to word.Uint c)) (unreckoned_as c.to (kind_in c) c)
 
 -- of floats a function is not reckoned
 abbrev pub or_unreckoned : Call → Term → Term
@@ -144,6 +145,8 @@ scalar_made (Saturates s) to = s
 scalar_made (BitsAs s) to = s
 scalar_made (Floats n) to = Float
 scalar_made (Tests n) to = Int
+scalar_made (Reduces n) to = Float
+scalar_made (Spreads n) to = Float
 scalar_made Absolute to = absolute_scalar to
 scalar_made Scaled to = Float
 scalar_made FromBits to = Float
@@ -157,6 +160,8 @@ term_made (BitsAs s) c = reread_first s c (first_in c.arguments)
 term_made (Integers n) c = unreckoned c
 term_made (Floats n) c = unreckoned_as Float word.Uint c
 term_made (Tests n) c = test c
+term_made (Reduces n) c = unreckoned_as Float word.Uint c
+term_made (Spreads n) c = unreckoned_as Float word.Uint c
 term_made Lesser c = or_unreckoned c (lesser c)
 term_made Greater c = or_unreckoned c (greater c)
 term_made Clamped c = or_unreckoned c (clamped c)
@@ -195,9 +200,3 @@ id_value ids f d = single Size (Id ids f d)
 -- no launch has an offset (5.8)
 abbrev pub offset_value : (ids : Kind) → Single
 offset_value ids = single Size (Literal ids (pos 0))
-
-abbrev pub called : (ids : Kind) → Form → (operation : ℕ) → Site → Expressions → Checked (List Single) → Checked Single
-called ids (IdOf f) n site arguments values = then (dimension_of site arguments) (λ d. Ok (id_value ids f d))
-called ids Offset n site arguments values = then (dimension_of site arguments) (λ d. Ok (offset_value ids))
-called ids (Missing c) n site arguments values = refused (LeftOut c) site
-called ids f n site arguments values = then values (result_of ids f n site)

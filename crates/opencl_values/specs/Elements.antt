@@ -1,35 +1,57 @@
 -- Elements of arrays by their indexes (C99 6.5.2.1).
 use Rattle.std.specs.Prelude.{ℕ, List, [], ◌∷◌, Bool, cond, Option, Some, None, Ok}
 use Rattle.semantics.specs.Word as word
-use Rattle.semantics.specs.Core.{Site, Array, Term, Load, Binary, Convert, Within}
-use Rattle.opencl_terms.specs.Types.{Scalar, ValueType, is_float}
+use Rattle.semantics.specs.Core.{Site, Array, Term, Variable, Load, Binary, Convert, Within}
+use Rattle.opencl_terms.specs.Types.{Scalar, Uint, Size, ValueType, Value, is_float, is_vector}
 use Rattle.opencl_terms.specs.Conversions.{uint, loaded}
 use Rattle.opencl_values.specs.Faults.{Checked, WrongType, LeftOut, Pointer, Outside, refused, then}
-use Rattle.opencl_values.specs.Scope.{Meaning, VariableOf, ArrayOf, NumberOf, TypeOf, UnreadOf}
+use Rattle.opencl_values.specs.Scope.{Meaning, VariableOf, ArrayOf, OwnOf, PointerOf, NumberOf, TypeOf, UnreadOf}
 use Rattle.opencl_values.specs.Singles.{Single, single}
-use Rattle.opencl_values.specs.Names.{scalar_in}
+use Rattle.opencl_values.specs.Wholes.{whole, words, vectors_below}
+use Rattle.opencl_values.specs.Vectors.{Loaded, vector_made}
 
--- an array, of which some dimensions have an index: the lengths of the others, and where they begin in it
+-- an array, of which some dimensions have an index: the lengths of the others, where they begin in it, and, of a pointer, its offset, an
+-- `int`, to which the next index is added
 pub record Part : Type 0 where
   pub array : Array
   pub element : ValueType
   pub is_constant : Bool
   pub lengths : List ℕ
   pub index : Option Term
+  pub offset : Option Term
 
--- an element, by its index in the whole array
+-- an element, by its index in the whole array; a vector by that of its first component
 pub record Element : Type 0 where
   pub array : Array
   pub element : ValueType
   pub is_constant : Bool
   pub index : Term
 
+abbrev pub part : Array → ValueType → (is_constant : Bool) → (lengths : List ℕ) → (index offset : Option Term) → Part
+part a t constant lengths index offset = record { array = a; element = t; is_constant = constant; lengths = lengths; index = index; offset = offset }
+
+-- a private array's own length and row
+abbrev pub lengths_of : Option (ℕ × Term) → List ℕ
+lengths_of None = []
+lengths_of (Some r) = r.0 ∷ []
+
+abbrev pub row_of : Option (ℕ × Term) → Option Term
+row_of None = None
+row_of (Some r) = Some r.1
+
 abbrev pub part_meant : Site → Meaning → Checked Part
-part_meant site (ArrayOf a t lengths constant) = Ok (record { array = a; element = t; is_constant = constant; lengths = lengths; index = None })
+part_meant site (ArrayOf a t lengths constant) = Ok (part a t constant lengths None None)
+part_meant site (OwnOf a t lengths constant row) = Ok (part a t constant lengths (Some row) None)
+part_meant site (PointerOf a t constant row slot) = Ok (part a t constant (lengths_of row) (row_of row) (Some (Variable slot)))
 part_meant site (VariableOf t slot constant) = refused WrongType site
 part_meant site (NumberOf bits) = refused WrongType site
 part_meant site (TypeOf t) = refused WrongType site
 part_meant site UnreadOf = refused (LeftOut Outside) site
+
+abbrev pub offset_as : Site → Scalar → Term → Term
+offset_as site Uint t = Convert word.Int site t
+offset_as site Size t = Convert word.Int site t
+offset_as site s t = t
 
 -- an index of a dimension has to lie in it (ours: C99 J.2 leaves what lies outside undefined, also where the whole array has it)
 abbrev pub in_dimension : Site → (length : ℕ) → Term → Term
@@ -54,24 +76,47 @@ one_index site lengths None t = Ok (first_index site lengths t)
 one_index site lengths (Some row) t = next_index site lengths row t
 
 abbrev pub part_at : Part → List ℕ × Term → Part
-part_at p rest = record p { lengths = rest.0; index = Some rest.1 }
+part_at p rest = record p { lengths = rest.0; index = Some rest.1; offset = None }
 
 abbrev pub with_index : Site → Part → Term → Checked Part
 with_index site p t = then (one_index site p.lengths p.index t) (λ rest. Ok (part_at p rest))
 
+-- offsets are `int`, so that none wraps: what is no `int` is converted, which is a fault above 2^31 - 1
+abbrev pub as_offset : Site → Single → Term
+as_offset site v = offset_as site v.scalar v.term
+
+-- behind an offset an index counts from there (6.5.6p8)
+abbrev pub from_offset : Site → Option Term → Single → Term
+from_offset site None i = i.term
+from_offset site (Some o) i = Binary word.Add word.Int site o (as_offset site i)
+
 abbrev pub indexed : Site → Part → Single → Checked Part
-indexed site p i = cond (is_float i.scalar) (refused WrongType site) (with_index site p i.term)
+indexed site p i = cond (is_float i.scalar) (refused WrongType site) (with_index site p (from_offset site p.offset i))
+
+-- the elements of vectors stand one behind the other (6.1.5): this is the index of the first one
+abbrev pub in_vector : Site → (words : ℕ) → Term → Term
+in_vector site n t = Binary word.Multiply word.Uint site (in_dimension site (vectors_below n) t) (uint n)
+
+abbrev pub first_word : Site → ValueType → Term → Term
+first_word site t i = cond (is_vector t) (in_vector site (words t.width) i) i
 
 -- a row of an array is a pointer to its first element (6.3.2.1p3)
-abbrev pub whole : Site → Part → (lengths : List ℕ) → Option Term → Checked Element
-whole site p [] (Some t) = Ok (record { array = p.array; element = p.element; is_constant = p.is_constant; index = t })
-whole site p lengths t = refused (LeftOut Pointer) site
+abbrev pub whole_part : Site → Part → (lengths : List ℕ) → Option Term → Checked Element
+whole_part site p [] (Some t) = Ok (record { array = p.array; element = p.element; is_constant = p.is_constant; index = first_word site p.element t })
+whole_part site p lengths t = refused (LeftOut Pointer) site
 
 abbrev pub element_in : Site → Part → Checked Element
-element_in site p = whole site p p.lengths p.index
+element_in site p = whole_part site p p.lengths p.index
 
 abbrev pub loaded_as : Site → Array → Scalar → Term → Term
 loaded_as site a s index = loaded s site (Load a site index)
 
-abbrev pub loaded_from : Site → Element → Checked Single
-loaded_from site e = then (scalar_in site e.element) (λ s. Ok (single s (loaded_as site e.array s e.index)))
+abbrev pub scalar_loaded : Site → Element → Value
+scalar_loaded site e = whole (single e.element.scalar (loaded_as site e.array e.element.scalar e.index))
+
+-- a load of a vector loads all its components
+abbrev pub vector_loaded : Site → Element → Value
+vector_loaded site e = vector_made word.Uint site (Loaded e.array e.element.scalar e.index) e.element
+
+abbrev pub loaded_from : Site → Element → Value
+loaded_from site e = cond (is_vector e.element) (vector_loaded site e) (scalar_loaded site e)

@@ -24,6 +24,7 @@ part p = record {
   is_constant = p.is_constant;
   lengths = p.lengths.now;
   index = maybe_term p.index;
+  offset = maybe_term p.offset;
 }
 
 abbrev pub element : Element → elements.Element

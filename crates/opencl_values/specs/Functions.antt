@@ -8,11 +8,12 @@ use Rattle.opencl_values.specs.Faults.{Construct, Atomic, Image, Vector, Pointer
 use Rattle.opencl_values.specs.Scope.{or_else}
 
 -- `Integers` take integers of one scalar and give such a one; `Floats` take and give floats; `Scaled` a float and an `int`; `FromBits`
--- makes a float of a `uint`, `Exponent` an `int` of a float; `Tests` of floats give an `int` of 0 or 1
+-- makes a float of a `uint`, `Exponent` an `int` of a float; `Tests` of floats give an `int` of 0 or 1; of vectors `Reduces` gives a float of
+-- all components, `Spreads` a vector of such
 pub data Form : Type 0 where
   IdOf : (function : Function) → Form
   Converts Saturates BitsAs : (to : Scalar) → Form
-  Integers Floats Tests : (count : ℕ) → Form
+  Integers Floats Tests Reduces Spreads : (count : ℕ) → Form
   Offset Lesser Greater Clamped Absolute Product24 Sum24 Scaled FromBits Exponent : Form
   Missing : (construct : Construct) → Form
 
@@ -25,6 +26,8 @@ count_of (BitsAs to) = 1
 count_of (Integers n) = n
 count_of (Floats n) = n
 count_of (Tests n) = n
+count_of (Reduces n) = n
+count_of (Spreads n) = n
 count_of Offset = 1
 count_of Lesser = 2
 count_of Greater = 2
@@ -68,14 +71,14 @@ functions =
     ∷ (codes "native_rsqrt", Floats 1) ∷ (codes "native_sin", Floats 1) ∷ (codes "native_sqrt", Floats 1) ∷ (codes "native_tan", Floats 1)
     ∷ (codes "half_divide", Floats 2) ∷ (codes "half_powr", Floats 2) ∷ (codes "native_divide", Floats 2)
     ∷ (codes "native_powr", Floats 2) ∷ (codes "degrees", Floats 1) ∷ (codes "radians", Floats 1) ∷ (codes "sign", Floats 1)
-    ∷ (codes "step", Floats 2) ∷ (codes "mix", Floats 3) ∷ (codes "smoothstep", Floats 3) ∷ (codes "dot", Floats 2)
-    ∷ (codes "distance", Floats 2) ∷ (codes "length", Floats 1) ∷ (codes "normalize", Floats 1) ∷ (codes "fast_distance", Floats 2)
-    ∷ (codes "fast_length", Floats 1) ∷ (codes "fast_normalize", Floats 1) ∷ (codes "isequal", Tests 2) ∷ (codes "isnotequal", Tests 2)
+    ∷ (codes "step", Floats 2) ∷ (codes "mix", Floats 3) ∷ (codes "smoothstep", Floats 3) ∷ (codes "dot", Reduces 2)
+    ∷ (codes "distance", Reduces 2) ∷ (codes "length", Reduces 1) ∷ (codes "normalize", Spreads 1) ∷ (codes "fast_distance", Reduces 2)
+    ∷ (codes "fast_length", Reduces 1) ∷ (codes "fast_normalize", Spreads 1) ∷ (codes "isequal", Tests 2) ∷ (codes "isnotequal", Tests 2)
     ∷ (codes "isgreater", Tests 2) ∷ (codes "isgreaterequal", Tests 2) ∷ (codes "isless", Tests 2) ∷ (codes "islessequal", Tests 2)
     ∷ (codes "islessgreater", Tests 2) ∷ (codes "isordered", Tests 2) ∷ (codes "isunordered", Tests 2) ∷ (codes "isfinite", Tests 1)
     ∷ (codes "isinf", Tests 1) ∷ (codes "isnan", Tests 1) ∷ (codes "isnormal", Tests 1) ∷ (codes "signbit", Tests 1)
     ∷ (codes "fract", Missing Pointer) ∷ (codes "frexp", Missing Pointer) ∷ (codes "lgamma_r", Missing Pointer)
-    ∷ (codes "modf", Missing Pointer) ∷ (codes "remquo", Missing Pointer) ∷ (codes "sincos", Missing Pointer) ∷ []
+    ∷ (codes "modf", Missing Pointer) ∷ (codes "remquo", Missing Pointer) ∷ (codes "sincos", Missing Pointer) ∷ (codes "cross", Spreads 2) ∷ []
 
 -- the work-item functions (6.12.1)
 unfoldable pub item_functions : List (List ℕ × Form)

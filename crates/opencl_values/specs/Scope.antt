@@ -1,14 +1,19 @@
 -- Which names are visible, and what they mean (C99 6.2.1 and 6.2.3).
-use Rattle.std.specs.Prelude.{ℕ, List, [], ◌∷◌, Bool, cond, Option, Some, None, bytes_eq}
-use Rattle.semantics.specs.Core.{Array}
+use Rattle.std.specs.Prelude.{ℕ, List, [], ◌∷◌, Bool, cond, ◌&&◌, Option, Some, None, bytes_eq, nat_eq}
+use Rattle.semantics.specs.Word.{Kind}
+use Rattle.semantics.specs.Core.{Site, Array, Term}
 use Rattle.opencl_terms.specs.Types.{ValueType}
 
--- a variable has a slot; an array has the lengths of its dimensions, the outermost first, of which a buffer has none; a number is an
--- enumeration's constant, an `int` of these 32 bits; a type is a name that a `typedef` made. What the file declares beside the kernel is
--- not read: such a name has no meaning of its own, but hides built-in functions and constants
+-- a variable has a slot; an array has the lengths of its dimensions, the outermost first, of which a buffer has none. A private array is a
+-- row of a local array, which has one for each item of a group: `lengths` are those of the dimensions of the row. A pointer is an array with
+-- an offset, an `int` that its slot has; where that is a private array it has its length and its row, too. A number is an enumeration's
+-- constant, an `int` of these 32 bits; a type is a name that a `typedef` made. What the file declares beside the kernel is not read: such a
+-- name has no meaning of its own, but hides built-in functions and constants
 pub data Meaning : Type 0 where
   VariableOf : (type : ValueType) (slot : ℕ) (is_constant : Bool) → Meaning
   ArrayOf : (array : Array) (element : ValueType) (lengths : List ℕ) (is_constant : Bool) → Meaning
+  OwnOf : (array : Array) (element : ValueType) (lengths : List ℕ) (is_constant : Bool) (row : Term) → Meaning
+  PointerOf : (array : Array) (element : ValueType) (is_constant : Bool) (row : Option (ℕ × Term)) (slot : ℕ) → Meaning
   NumberOf : (bits : ℕ) → Meaning
   TypeOf : (type : ValueType) → Meaning
   UnreadOf : Meaning
@@ -30,3 +35,25 @@ meaning_with m (b ∷ bs) name = meaning_with (cond (bytes_eq b.name name) (Some
 
 abbrev pub meaning_of : (visible : List Binding) → (name : List ℕ) → Option Meaning
 meaning_of visible name = meaning_with None visible name
+
+-- the value of an expression with effects that was written out before, by its site: it is kept in variables from a slot on
+pub record Drawn : Type 0 where
+  pub site : Site
+  pub type : ValueType
+  pub slot : ℕ
+
+-- what the terms of expressions depend on: the kind of ids and sizes, the visible names, and what was written out before
+pub record Names : Type 0 where
+  pub ids : Kind
+  pub visible : List Binding
+  pub drawn : List Drawn
+
+abbrev pub is_at : (a b : Site) → Bool
+is_at a b = nat_eq a.line b.line && nat_eq a.column b.column
+
+abbrev pub drawn_in : List Drawn → Site → Option Drawn
+drawn_in [] site = None
+drawn_in (d ∷ ds) site = cond (is_at d.site site) (Some d) (drawn_in ds site)
+
+abbrev pub drawn_at : Names → Site → Option Drawn
+drawn_at names site = drawn_in names.drawn site

@@ -10,7 +10,7 @@ ghost use Rattle.opencl_tree.specs.View.{expressions};
 ghost use Rattle.opencl_values.specs.Calls as rules;
 ghost use Rattle.opencl_values.specs.CallsView.{call as seen};
 ghost use Rattle.opencl_values.specs.FunctionsView.{form as form_seen};
-ghost use Rattle.opencl_values.specs.View.{single, values, Gives};
+ghost use Rattle.opencl_values.specs.View.{single, singles_seen as values, Gives};
 ghost use Rattle.semantics.specs.Core as core;
 ghost use Rattle.semantics.specs.Word as word;
 ghost use Rattle.words.specs.View.{kind as kind_seen};
@@ -24,6 +24,7 @@ use core_pieces::copies::copy_of;
 use core_pieces::pieces::{
     and, binary, compare, convert, literal, maximum, minimum, opaque, select, unary,
 };
+use opencl_terms::narrowing::narrowed;
 use opencl_terms::scalars::{Scalar, common};
 use opencl_tree::tree::Expr;
 use std::alloc::{AllocError, Global};
@@ -84,7 +85,8 @@ fn argument_as(alloc: Global, to: Scalar, call: Call, place: usize) -> Result<Te
     as_scalar(alloc, call.ids, to, call.at, of)
 }
 
-fn argument(alloc: Global, call: Call, place: usize) -> Result<Term, AllocError>
+/// The argument of a number, from 0, as the scalar of all.
+pub fn argument(alloc: Global, call: Call, place: usize) -> Result<Term, AllocError>
     ensures { IfOk result (λ t. term t ≡ rules.argument (seen call.entry) place) }
 {
     argument_as(alloc, call.to, call, place)
@@ -119,6 +121,10 @@ fn unreckoned_as(alloc: Global, to: Scalar, gives: Kind, call: Call) -> Result<T
 fn unreckoned(alloc: Global, call: Call) -> Result<Term, AllocError>
     ensures { IfOk result (λ t. term t ≡ rules.unreckoned (seen call.entry)) }
 {
+    if call.to.is_narrow() {
+        let word = unreckoned_as(alloc, call.to, Kind::Uint, call)?;
+        return narrowed(alloc, call.to, call.at, word);
+    }
     unreckoned_as(alloc, call.to, call.kind(), call)
 }
 
@@ -340,7 +346,8 @@ fn scaled(alloc: Global, call: Call) -> Result<Term, AllocError>
     )
 }
 
-fn test(alloc: Global, call: Call) -> Result<Term, AllocError>
+/// A test of floats, as an `int` of 0 or 1.
+pub fn test(alloc: Global, call: Call) -> Result<Term, AllocError>
     ensures { IfOk result (λ t. term t ≡ rules.test (seen call.entry)) }
 {
     let holds = unreckoned_as(alloc, Scalar::Float, Kind::Uint, call)?;
@@ -396,13 +403,14 @@ fn takes(form: Form, call: Call) -> bool
     }
 }
 
-// The scalar that a function gives.
-fn scalar_made(form: Form, to: Scalar) -> Scalar
+/// The scalar that a function gives.
+pub fn scalar_made(form: Form, to: Scalar) -> Scalar
     ensures { scalar_seen result ≡ rules.scalar_made (form_seen form) (scalar_seen to) }
 {
     match form {
         Form::Converts(scalar) | Form::Saturates(scalar) | Form::BitsAs(scalar) => scalar,
-        Form::Floats(_) | Form::Scaled | Form::FromBits => Scalar::Float,
+        Form::Floats(_) | Form::Reduces(_) | Form::Spreads(_) | Form::Scaled | Form::FromBits =>
+            Scalar::Float,
         Form::Tests(_) | Form::Exponent => Scalar::Int,
         Form::Absolute => match to {
             Scalar::Int => Scalar::Uint,
@@ -412,7 +420,8 @@ fn scalar_made(form: Form, to: Scalar) -> Scalar
     }
 }
 
-fn term_made(alloc: Global, form: Form, call: Call) -> Result<Term, AllocError>
+/// The term of what a function makes.
+pub fn term_made(alloc: Global, form: Form, call: Call) -> Result<Term, AllocError>
     ensures { IfOk result (λ t. term t ≡ rules.term_made (form_seen form) (seen call.entry)) }
 {
     match form {
@@ -420,7 +429,9 @@ fn term_made(alloc: Global, form: Form, call: Call) -> Result<Term, AllocError>
         Form::Saturates(to) => saturated_first(alloc, to, call),
         Form::BitsAs(to) => reread_first(alloc, to, call),
         Form::Integers(_) => unreckoned(alloc, call),
-        Form::Floats(_) => unreckoned_as(alloc, Scalar::Float, Kind::Uint, call),
+        Form::Floats(_) | Form::Reduces(_) | Form::Spreads(_) => {
+            unreckoned_as(alloc, Scalar::Float, Kind::Uint, call)
+        }
         Form::Tests(_) => test(alloc, call),
         Form::Lesser => lesser(alloc, call),
         Form::Greater => greater(alloc, call),

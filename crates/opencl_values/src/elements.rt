@@ -1,25 +1,29 @@
 //! Elements of arrays by their indexes.
 
-ghost use Rattle.std.specs.Prelude.{◌≡◌, IfOk, Ok};
+ghost use Rattle.std.specs.Prelude.{◌≡◌, IfOk, Ok, Some, None};
 ghost use Rattle.core_code.specs.View.{array as array_seen, site, term};
+ghost use Rattle.opencl_terms.specs.Answers.{value_type};
 ghost use Rattle.opencl_terms.specs.View.{scalar as scalar_seen};
 ghost use Rattle.opencl_values.specs.Elements as rules;
 ghost use Rattle.opencl_values.specs.ElementsView.{element as element_seen, maybe_term, part as part_seen, rest};
 ghost use Rattle.opencl_values.specs.Faults as faults;
-ghost use Rattle.opencl_values.specs.View.{meaning_in, single, Gives};
+ghost use Rattle.opencl_values.specs.View.{maybe_row, meaning_in, single, value as value_seen, Gives};
 
 use crate::error::{Construct, Fault, ValueError, refused};
-use crate::names::scalar_in;
 use crate::scope::Meaning;
 use crate::singles::Single;
+use crate::vectors::{Made, vector_made};
+use crate::wholes::{Value, vectors_below, whole, words};
 use core_code::tree::{Array, Operator, Site, Term};
+use core_pieces::copies::copy_of;
 use core_pieces::pieces::{binary, convert, literal, load, within};
 use opencl_terms::narrowing::loaded;
 use opencl_terms::scalars::{Scalar, ValueType};
 use std::alloc::{AllocError, Global};
 use words::Kind;
 
-/// An array, of which some dimensions have an index: the lengths of the others, and where they begin in it.
+/// An array, of which some dimensions have an index: the lengths of the others, where they begin in it, and, of a pointer, its offset, to
+/// which the next index is added.
 #[derive(Drop)]
 pub struct Part<'a> {
     pub array: Array,
@@ -27,9 +31,10 @@ pub struct Part<'a> {
     pub is_constant: bool,
     pub lengths: &'a [u32],
     pub index: Option<Term>,
+    pub offset: Option<Term>,
 }
 
-/// An element, by its index in the whole array.
+/// An element, by its index in the whole array; a vector by that of its first component.
 #[derive(Drop)]
 pub struct Element {
     pub array: Array,
@@ -38,8 +43,50 @@ pub struct Element {
     pub index: Term,
 }
 
+fn row_of(alloc: Global, row: &Option<(u32, Term)>) -> Result<Option<Term>, AllocError>
+    ensures { IfOk result (λ t. maybe_term t ≡ rules.row_of (maybe_row row.now)) }
+{
+    match row {
+        None => Ok(None),
+        Some((_, row)) => Ok(Some(copy_of(alloc, row)?)),
+    }
+}
+
+fn lengths_of(row: &Option<(u32, Term)>) -> &[u32]
+    ensures { result.now ≡ rules.lengths_of (maybe_row row.now) }
+{
+    match row {
+        None => &[],
+        Some((length, _)) => std::slice::from_ref(length),
+    }
+}
+
+fn own<'a>(
+    alloc: Global,
+    array: Array,
+    element: ValueType,
+    lengths: &'a [u32],
+    is_constant: bool,
+    row: &Term,
+) -> Result<Part<'a>, AllocError>
+    ensures { IfOk result (λ p. part_seen p ≡ rules.part (array_seen array) (value_type element) is_constant lengths.now (Some (term row.now)) None) }
+{
+    Ok(Part {
+        array,
+        element,
+        is_constant,
+        lengths,
+        index: Some(copy_of(alloc, row)?),
+        offset: None,
+    })
+}
+
 /// The array that a name means.
-pub fn part_meant<'a>(at: Site, meaning: Option<&'a Meaning>) -> Result<Part<'a>, ValueError>
+pub fn part_meant<'a>(
+    alloc: Global,
+    at: Site,
+    meaning: Option<&'a Meaning>,
+) -> Result<Part<'a>, ValueError>
     ensures { Gives part_seen result (faults.then (faults.found (meaning_in meaning.entry) faults.UnknownName (site at)) (rules.part_meant (site at))) }
 {
     match meaning {
@@ -57,6 +104,39 @@ pub fn part_meant<'a>(at: Site, meaning: Option<&'a Meaning>) -> Result<Part<'a>
             is_constant: *is_constant,
             lengths: lengths.as_slice(),
             index: None,
+            offset: None,
+        }),
+        Some(
+            Meaning::Own {
+                array,
+                element,
+                lengths,
+                is_constant,
+                row,
+            },
+        ) => Ok(own(
+            alloc,
+            *array,
+            *element,
+            lengths.as_slice(),
+            *is_constant,
+            row,
+        )?),
+        Some(
+            Meaning::Pointer {
+                array,
+                element,
+                is_constant,
+                row,
+                slot,
+            },
+        ) => Ok(Part {
+            array: *array,
+            element: *element,
+            is_constant: *is_constant,
+            lengths: lengths_of(row),
+            index: row_of(alloc, row)?,
+            offset: Some(Term::Variable { slot: *slot }),
         }),
         Some(Meaning::Unread) => refused(Fault::LeftOut(Construct::Outside), at),
         Some(_) => refused(Fault::WrongType, at),
@@ -70,7 +150,14 @@ fn in_dimension(alloc: Global, at: Site, length: u32, index: Term) -> Result<Ter
     convert(alloc, Kind::Uint, at, index)
 }
 
-fn in_row(alloc: Global, at: Site, row: Term, length: u32, index: Term) -> Result<Term, AllocError>
+/// An index of a row, which has to lie in it, as one of the whole array.
+pub fn in_row(
+    alloc: Global,
+    at: Site,
+    row: Term,
+    length: u32,
+    index: Term,
+) -> Result<Term, AllocError>
     ensures { IfOk result (λ t. term t ≡ rules.in_row (site at) (term row) length (term index)) }
 {
     let index = in_dimension(alloc, at, length, index)?;
@@ -143,6 +230,7 @@ fn with_index<'a>(
         is_constant,
         lengths,
         index: so_far,
+        ..
     } = of;
     let (lengths, index) = one_index(alloc, at, lengths, so_far, index)?;
     Ok(Part {
@@ -151,7 +239,36 @@ fn with_index<'a>(
         is_constant,
         lengths,
         index: Some(index),
+        offset: None,
     })
+}
+
+/// A number of elements as an `int`: what is none is converted, which is a fault above 2^31 - 1.
+pub fn as_offset(alloc: Global, at: Site, of: Single) -> Result<Term, AllocError>
+    ensures { IfOk result (λ t. term t ≡ rules.as_offset (site at) (single of)) }
+{
+    match of.scalar {
+        Scalar::Uint | Scalar::Size => convert(alloc, Kind::Int, at, of.term),
+        _ => Ok(of.term),
+    }
+}
+
+fn from_offset(
+    alloc: Global,
+    at: Site,
+    offset: &Option<Term>,
+    index: Single,
+) -> Result<Term, AllocError>
+    ensures { IfOk result (λ t. term t ≡ rules.from_offset (site at) (maybe_term offset.now) (single index)) }
+{
+    match offset {
+        None => Ok(index.term),
+        Some(offset) => {
+            let offset = copy_of(alloc, offset)?;
+            let index = as_offset(alloc, at, index)?;
+            binary(alloc, Operator::Add, Kind::Int, at, offset, index)
+        }
+    }
 }
 
 /// An array with one index more (C99 6.5.2.1).
@@ -166,11 +283,37 @@ pub fn indexed<'a>(
     if index.scalar.is_float() {
         return refused(Fault::WrongType, at);
     }
-    with_index(alloc, at, of, index.term)
+    let index = from_offset(alloc, at, &of.offset, index)?;
+    with_index(alloc, at, of, index)
+}
+
+fn in_vector(alloc: Global, at: Site, words: u32, index: Term) -> Result<Term, AllocError>
+    ensures { IfOk result (λ t. term t ≡ rules.in_vector (site at) words (term index)) }
+{
+    let index = in_dimension(alloc, at, vectors_below(words), index)?;
+    binary(
+        alloc,
+        Operator::Multiply,
+        Kind::Uint,
+        at,
+        index,
+        literal(Kind::Uint, words),
+    )
+}
+
+// The index of the first component of an element.
+fn first_word(alloc: Global, at: Site, of: ValueType, index: Term) -> Result<Term, AllocError>
+    ensures { IfOk result (λ t. term t ≡ rules.first_word (site at) (value_type of) (term index)) }
+{
+    if of.is_vector() {
+        in_vector(alloc, at, words(of.width), index)
+    } else {
+        Ok(index)
+    }
 }
 
 /// The element that an array with all its indexes is.
-pub fn element_in(at: Site, of: Part<'_>) -> Result<Element, ValueError>
+pub fn element_in(alloc: Global, at: Site, of: Part<'_>) -> Result<Element, ValueError>
     ensures { Gives element_seen result (rules.element_in (site at) (part_seen of.entry)) }
 {
     let Part {
@@ -179,13 +322,14 @@ pub fn element_in(at: Site, of: Part<'_>) -> Result<Element, ValueError>
         is_constant,
         lengths,
         index,
+        ..
     } = of;
     match (lengths, index) {
         ([], Some(index)) => Ok(Element {
             array,
             element,
             is_constant,
-            index,
+            index: first_word(alloc, at, element, index)?,
         }),
         _ => refused(Fault::LeftOut(Construct::Pointer), at),
     }
@@ -205,13 +349,31 @@ fn loaded_as(
     loaded(alloc, scalar, at, word)
 }
 
-/// The value of an element.
-pub fn loaded_from(alloc: Global, at: Site, of: Element) -> Result<Single, ValueError>
-    ensures { Gives single result (rules.loaded_from (site at) (element_seen of)) }
+fn scalar_loaded(alloc: Global, at: Site, of: Element) -> Result<Value, AllocError>
+    ensures { IfOk result (λ v. value_seen v ≡ rules.scalar_loaded (site at) (element_seen of)) }
 {
-    let scalar = scalar_in(at, of.element)?;
-    Ok(Single {
+    let scalar = of.element.scalar;
+    let loaded = Single {
         scalar,
         term: loaded_as(alloc, at, of.array, scalar, of.index)?,
-    })
+    };
+    whole(alloc, loaded)
+}
+
+fn vector_loaded(alloc: Global, at: Site, of: &Element) -> Result<Value, AllocError>
+    ensures { IfOk result (λ v. value_seen v ≡ rules.vector_loaded (site at) (element_seen of.now)) }
+{
+    let made = Made::Loaded(of.array, of.element.scalar, &of.index);
+    vector_made(alloc, Kind::Uint, at, made, of.element)
+}
+
+/// The value of an element.
+pub fn loaded_from(alloc: Global, at: Site, of: Element) -> Result<Value, AllocError>
+    ensures { IfOk result (λ v. value_seen v ≡ rules.loaded_from (site at) (element_seen of)) }
+{
+    if of.element.is_vector() {
+        vector_loaded(alloc, at, &of)
+    } else {
+        scalar_loaded(alloc, at, of)
+    }
 }

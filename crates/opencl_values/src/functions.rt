@@ -25,6 +25,10 @@ pub enum Form {
     Floats(u32),
     /// So many floats, and it gives an `int` of 0 or 1.
     Tests(u32),
+    /// So many vectors, and it gives a float of all their components.
+    Reduces(u32),
+    /// So many vectors, and it gives one, each component of all of theirs.
+    Spreads(u32),
     Offset,
     Lesser,
     Greater,
@@ -42,7 +46,7 @@ pub enum Form {
 }
 
 /// The functions of OpenCL 1.2, 6.12.2 to 6.12.6.
-static FUNCTIONS: [(&[u8], Form); 139] = [
+static FUNCTIONS: [(&[u8], Form); 140] = [
     (b"min", Form::Lesser),
     (b"max", Form::Greater),
     (b"clamp", Form::Clamped),
@@ -155,13 +159,13 @@ static FUNCTIONS: [(&[u8], Form); 139] = [
     (b"step", Form::Floats(2)),
     (b"mix", Form::Floats(3)),
     (b"smoothstep", Form::Floats(3)),
-    (b"dot", Form::Floats(2)),
-    (b"distance", Form::Floats(2)),
-    (b"length", Form::Floats(1)),
-    (b"normalize", Form::Floats(1)),
-    (b"fast_distance", Form::Floats(2)),
-    (b"fast_length", Form::Floats(1)),
-    (b"fast_normalize", Form::Floats(1)),
+    (b"dot", Form::Reduces(2)),
+    (b"distance", Form::Reduces(2)),
+    (b"length", Form::Reduces(1)),
+    (b"normalize", Form::Spreads(1)),
+    (b"fast_distance", Form::Reduces(2)),
+    (b"fast_length", Form::Reduces(1)),
+    (b"fast_normalize", Form::Spreads(1)),
     (b"isequal", Form::Tests(2)),
     (b"isnotequal", Form::Tests(2)),
     (b"isgreater", Form::Tests(2)),
@@ -182,6 +186,7 @@ static FUNCTIONS: [(&[u8], Form); 139] = [
     (b"modf", Form::Missing(Construct::Pointer)),
     (b"remquo", Form::Missing(Construct::Pointer)),
     (b"sincos", Form::Missing(Construct::Pointer)),
+    (b"cross", Form::Spreads(2)),
 ];
 
 /// The work-item functions (6.12.1).
@@ -331,7 +336,11 @@ impl Form {
             | Form::Absolute
             | Form::FromBits
             | Form::Exponent => 1,
-            Form::Integers(count) | Form::Floats(count) | Form::Tests(count) => count,
+            Form::Integers(count)
+            | Form::Floats(count)
+            | Form::Tests(count)
+            | Form::Reduces(count)
+            | Form::Spreads(count) => count,
             Form::Lesser | Form::Greater | Form::Product24 | Form::Scaled => 2,
             Form::Clamped | Form::Sum24 => 3,
             Form::Missing(_) => 0,
@@ -340,12 +349,11 @@ impl Form {
 }
 
 // The form of a name in a table, with its place there, counted from a number.
-fn entry_at(table: &[(&[u8], Form)], name: &str, from: u32) -> Option<(Form, u32)>
+fn entry_at(table: &[(&[u8], Form)], name: &[u8], from: u32) -> Option<(Form, u32)>
     requires low { from ≤ 64 }
     requires few { length table.now ≤ 1000 }
     ensures { option_map form_place result ≡ rules.entry_at (map form_entry table.now) name.now from }
 {
-    let name = name.as_bytes();
     let mut place = from;
     for (text, form) in table {
         if *text == name {
@@ -361,12 +369,20 @@ fn entry_at(table: &[(&[u8], Form)], name: &str, from: u32) -> Option<(Form, u32
 pub fn form_named(name: &str) -> Option<(Form, u32)>
     ensures { option_map form_place result ≡ rules.form_named name.now }
 {
+    let name = name.as_bytes();
     if let Some(found) = entry_at(functions(), name, 64) {
         return Some(found);
     }
     if let Some(found) = entry_at(item_functions(), name, 0) {
         return Some(found);
     }
+    entry_at(conversions(), name, 0)
+}
+
+/// The form of the name of a conversion of a scalar (OpenCL 1.2, 6.2.3 and 6.2.4.2).
+pub fn conversion_of(name: &[u8]) -> Option<(Form, u32)>
+    ensures { option_map form_place result ≡ rules.entry_at rules.conversions name.now 0 }
+{
     entry_at(conversions(), name, 0)
 }
 

@@ -13,6 +13,7 @@ ghost use Rattle.opencl_values.specs.View.{bindings, meaning_in, Gives};
 
 use crate::error::{Construct, Fault, ValueError, refused};
 use crate::scope::{Binding, Meaning, meaning_of};
+use crate::wholes::words;
 use core_code::tree::Site;
 use opencl_terms::scalars::{Scalar, ValueType};
 use opencl_tokens::Scalar as Word;
@@ -88,6 +89,18 @@ pub fn scalar_of_type(visible: &[Binding], of: &TypeName, at: Site) -> Result<Sc
     }
 }
 
+/// The type that a name of a type is.
+pub fn type_of_name(visible: &[Binding], of: &TypeName, at: Site) -> Result<ValueType, ValueError>
+    ensures { Gives value_type result (rules.type_of_name (bindings visible.now) (type_name of.now) (site at)) }
+{
+    let named = type_of_base(visible, &of.base, at)?;
+    if of.stars.is_empty() {
+        Ok(named)
+    } else {
+        refused(Fault::LeftOut(Construct::Pointer), at)
+    }
+}
+
 /// The bytes of a scalar (OpenCL 1.2, 6.3 k).
 pub fn bytes_in(at: Site, of: Scalar) -> Result<u32, ValueError>
     ensures { Gives (λ n. n) result (rules.bytes_in (site at) (scalar_seen of)) }
@@ -97,5 +110,16 @@ pub fn bytes_in(at: Site, of: Scalar) -> Result<u32, ValueError>
         Scalar::Short | Scalar::Ushort => Ok(2),
         Scalar::Int | Scalar::Uint | Scalar::Float => Ok(4),
         Scalar::Boolean | Scalar::Size => refused(Fault::LeftOut(Construct::DeviceSize), at),
+    }
+}
+
+/// The bytes of a type; a vector of three has those of four (OpenCL 1.2, 6.3 k and 6.1.5).
+pub fn bytes_of(at: Site, of: ValueType) -> Result<u32, ValueError>
+    ensures { Gives (λ n. n) result (rules.bytes_of (site at) (value_type of)) }
+{
+    let bytes = bytes_in(at, of.scalar)?;
+    match bytes.checked_mul(words(of.width)) {
+        Some(bytes) => Ok(bytes),
+        None => Err(ValueError::Memory),
     }
 }

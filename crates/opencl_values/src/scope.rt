@@ -2,10 +2,12 @@
 
 ghost use Rattle.std.specs.Prelude.{◌≡◌};
 ghost use Rattle.opencl_values.specs.Scope as scope;
-ghost use Rattle.opencl_values.specs.View.{bindings, meaning_in};
+ghost use Rattle.core_code.specs.View.{site as site_seen};
+ghost use Rattle.opencl_values.specs.View.{all_drawn, bindings, maybe_drawn, meaning_in, names as names_seen};
 
-use core_code::tree::Array;
+use core_code::tree::{Array, Site, Term};
 use opencl_terms::scalars::ValueType;
+use words::Kind;
 
 /// What a name means.
 #[derive(Drop)]
@@ -21,6 +23,22 @@ pub enum Meaning {
         element: ValueType,
         lengths: Vec<u32>,
         is_constant: bool,
+    },
+    /// A private array: a row of a local array, which has one for each item of a group.
+    Own {
+        array: Array,
+        element: ValueType,
+        lengths: Vec<u32>,
+        is_constant: bool,
+        row: Term,
+    },
+    /// An array with an offset, which the slot has. Into a private array it has the length of that and its row.
+    Pointer {
+        array: Array,
+        element: ValueType,
+        is_constant: bool,
+        row: Option<(u32, Term)>,
+        slot: u32,
     },
     /// A constant of an enumeration, by the 32 bits of an `int`.
     Number(u32),
@@ -48,4 +66,38 @@ pub fn meaning_of<'a>(visible: &'a [Binding<'_>], name: &str) -> Option<&'a Mean
         }
     }
     found
+}
+
+/// The value of an expression with effects that was written out before, by its site: it is kept in variables from a slot on.
+#[derive(Clone, Copy)]
+pub struct Drawn {
+    pub site: Site,
+    pub of: ValueType,
+    pub slot: u32,
+}
+
+/// What the terms of expressions depend on: the kind of ids and sizes, the visible names, and what was written out before.
+#[derive(Clone, Copy)]
+pub struct Names<'a> {
+    pub ids: Kind,
+    pub visible: &'a [Binding<'a>],
+    pub drawn: &'a [Drawn],
+}
+
+fn drawn_in(drawn: &[Drawn], site: Site) -> Option<Drawn>
+    ensures { maybe_drawn result ≡ scope.drawn_in (all_drawn drawn.now) (site_seen site) }
+{
+    for one in drawn {
+        if one.site.line == site.line && one.site.column == site.column {
+            return Some(*one);
+        }
+    }
+    None
+}
+
+/// The value that was written out before for the expression at a site.
+pub fn drawn_at(names: Names, site: Site) -> Option<Drawn>
+    ensures { maybe_drawn result ≡ scope.drawn_at (names_seen names.entry) (site_seen site) }
+{
+    drawn_in(names.drawn, site)
 }

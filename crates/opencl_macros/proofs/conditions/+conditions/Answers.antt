@@ -1,4 +1,4 @@
-use Rattle.std.proofs.Common.{◌≡◌, ◌-◌, arith}
+use Rattle.std.proofs.Common.{◌-◌, arith}
 use Rattle.opencl_tokens.specs.Seen.{site}
 use Rattle.opencl_macros.specs.Seen.{tokens_seen}
 use Rattle.opencl_macros.specs.SeenConditions.{part}
@@ -11,5 +11,5 @@ read_part-returns-then-depth-eq0 t c =
 
 pub read_part-returns : goal.read_part-returns
 read_part-returns t c =
-    rw (part-is c.args.depth (c.args.depth - 1) (site c.args.site) (part c.args.wanted) (tokens_seen c.args.tokens.now) (omega (arith, c.if-depth-eq0.false)))
-    c.read_within.ensures
+    rw (part-is c.args.depth (c.args.depth - 1) (site c.args.site) (part c.args.wanted) (tokens_seen c.args.tokens.now)
+    (omega (arith, c.if-depth-eq0.false))) c.read_within.ensures

@@ -1,4 +1,4 @@
-use Rattle.std.proofs.Common.{◌≡◌, ◌+◌, ◌-◌, [], ◌++◌, None, true, drop, map, length}
+use Rattle.std.proofs.Common.{◌≡◌, true, drop}
 use Rattle.opencl_macros.specs.Directives.{are_names}
 use Rattle.opencl_macros.specs.Seen.{tokens_seen}
 use Rattle.opencl_macros.proofs.directives.are_names.Given as goal

@@ -1,7 +1,7 @@
-use Rattle.std.proofs.Common.{◌≡◌, ◌∙◌, sym, ap, drop}
+use Rattle.std.proofs.Common.{◌∙◌, sym, ap, drop}
 use Rattle.std.proofs.lemmas.List.{take_rest}
 use Rattle.opencl_tokens.specs.Spelling.{sign}
-use Rattle.opencl_macros.specs.Conditions.{is_front}
+use Rattle.opencl_macros.specs.Macros.{is_front}
 use Rattle.opencl_macros.specs.Seen.{tokens_seen}
 use Rattle.opencl_macros.proofs.Pieces.{ending}
 use Rattle.opencl_macros.proofs.directives.ends_with.Goals as goal

@@ -1,4 +1,4 @@
-use Rattle.std.proofs.Common.{◌≡◌, ◌+◌, ◌-◌, [], ◌++◌, None, true, drop, map, length}
+use Rattle.std.proofs.Common.{◌≡◌, drop}
 use Rattle.opencl_macros.specs.Directives.{has_name}
 use Rattle.opencl_macros.specs.Seen.{tokens_seen}
 use Rattle.opencl_macros.proofs.directives.has_name.Given as goal

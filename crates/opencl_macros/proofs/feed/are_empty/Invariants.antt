@@ -1,4 +1,4 @@
-use Rattle.std.proofs.Common.{◌≡◌, [], None, drop, map}
+use Rattle.std.proofs.Common.{◌≡◌, drop}
 use Rattle.opencl_macros.specs.Expansion.{are_empty}
 use Rattle.opencl_macros.specs.Seen.{arguments}
 use Rattle.opencl_macros.proofs.feed.are_empty.Given as goal

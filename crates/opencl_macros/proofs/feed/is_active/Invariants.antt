@@ -1,4 +1,4 @@
-use Rattle.std.proofs.Common.{◌≡◌, [], None, drop, map}
+use Rattle.std.proofs.Common.{◌≡◌, drop}
 use Rattle.opencl_macros.specs.Expansion.{is_active}
 use Rattle.opencl_macros.specs.Seen.{active}
 use Rattle.opencl_macros.proofs.feed.is_active.Given as goal

@@ -1,4 +1,4 @@
-use Rattle.std.proofs.Common.{◌≡◌, [], None, drop, map}
+use Rattle.std.proofs.Common.{◌≡◌, drop}
 use Rattle.opencl_macros.specs.Expansion.{opens}
 use Rattle.opencl_macros.specs.Seen.{feed}
 use Rattle.opencl_macros.proofs.feed.opens.Given as goal

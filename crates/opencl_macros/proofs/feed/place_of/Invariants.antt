@@ -1,4 +1,4 @@
-use Rattle.std.proofs.Common.{◌≡◌, [], None, drop, map}
+use Rattle.std.proofs.Common.{◌≡◌, drop}
 use Rattle.opencl_macros.specs.Expansion.{place_of}
 use Rattle.opencl_macros.specs.Seen.{tokens_seen}
 use Rattle.opencl_macros.proofs.feed.place_of.Given as goal

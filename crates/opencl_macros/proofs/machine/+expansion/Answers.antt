@@ -1,4 +1,4 @@
-use Rattle.std.proofs.Common.{◌≡◌, ◌-◌, ◌+◌, ◌∙◌, sym, ap, rules, arith}
+use Rattle.std.proofs.Common.{◌-◌, ◌+◌, ◌∙◌, sym, ap, rules, arith}
 use Rattle.opencl_tokens.specs.Seen.{site}
 use Rattle.opencl_macros.specs.Macros.{on}
 use Rattle.opencl_macros.specs.Machine.{machine, expanded}

@@ -1,4 +1,4 @@
-use Rattle.std.proofs.Common.{◌≡◌, ◌+◌, ◌-◌, [], ◌++◌, None, drop, map, length}
+use Rattle.std.proofs.Common.{◌≡◌, ◌++◌, drop}
 use Rattle.opencl_macros.specs.Seen.{feed}
 use Rattle.opencl_macros.proofs.machine.fed_with.Given as goal
 

@@ -1,4 +1,4 @@
-use Rattle.std.proofs.Common.{◌≡◌, [], None, drop, map}
+use Rattle.std.proofs.Common.{◌≡◌, None, drop}
 use Rattle.opencl_macros.specs.Macros.{look}
 use Rattle.opencl_macros.specs.Seen.{table, maybe_macro}
 use Rattle.opencl_macros.proofs.macros.look.Given as goal

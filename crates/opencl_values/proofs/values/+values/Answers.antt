@@ -1,9 +1,11 @@
-use Rattle.std.proofs.Common.{ap, ◌∙◌}
+use Rattle.std.proofs.Common.{ap, ◌∙◌, rules, arith}
+use Rattle.std.proofs.lemmas.Grind.{common_steps}
 use Rattle.opencl_tree.specs.View.{expression}
-use Rattle.opencl_tree.proofs.Rows.{seen_call}
+use Rattle.opencl_tree.proofs.Rows.{seen_vector}
+use Rattle.opencl_values.specs.Values.{value_of}
 use Rattle.opencl_values.proofs.values.+values.Goals as goal
 
-pub value_of-returns-in-Call : goal.value_of-returns-in-Call
-value_of-returns-in-Call t c =
-    let e = ap expression c.in-Call.is ∙ seen_call c.in-Call.site c.in-Call.name c.in-Call.arguments in
-    rw e (rw (c.as_str-in-Call.ensures.value, c.as_slice.ensures.value) at c.call_named.ensures)
+pub value_of-returns-in-Vector : goal.value_of-returns-in-Vector
+unfolding value_of
+value_of-returns-in-Vector t c =
+    rw (ap expression c.in-Vector.is ∙ seen_vector c.in-Vector.site c.in-Vector.to c.in-Vector.parts) (first_of (search rules, grind (arith, common_steps)))

@@ -1,0 +1,6 @@
+use Rattle.std.proofs.lemmas.Str.{IsUtf8-from_ascii}
+use Rattle.opencl_macros.proofs.Names.{word_ascii}
+use Rattle.opencl_macros.proofs.pasting.word_of.Goals as goal
+
+pub unreachable-requires : goal.unreachable-requires
+unreachable-requires c = c.in-Err.ensures.cases.0 (IsUtf8-from_ascii c.args.bytes.now (word_ascii c.args.bytes.now c.requires))

@@ -1,5 +1,5 @@
 -- Calls by their arguments.
-use Rattle.std.proofs.Common.{◌≡◌, ◌≢◌, ℕ, List, [], ◌∷◌, length, refl}
+use Rattle.std.proofs.Common.{◌≡◌, ◌≢◌, ◌<◌, ◌≤◌, ℕ, List, [], ◌∷◌, length, refl, arith}
 use Rattle.semantics.specs.Core.{Site}
 use Rattle.opencl_tree.specs.View.{expressions}
 use Rattle.opencl_tree.specs.declared.tree.Expr.{Expr}
@@ -13,11 +13,19 @@ fences-many at [] h = refl
 fences-many at (e ∷ []) h = absurd (h refl)
 fences-many at (e ∷ x ∷ es) h = refl
 
-pub write_vector-other : (at : Site) (n : ℕ) (es : List Expr) (r : Room) → length es ≢ 3 → write_vector at n (expressions es) r ≡ refused WrongType at
-write_vector-other at n [] r h = refl
-write_vector-other at n (e ∷ []) r h = refl
-write_vector-other at n (e ∷ x ∷ []) r h = refl
-write_vector-other at n (e ∷ x ∷ y ∷ []) r h = absurd (h refl)
-write_vector-other at n (e ∷ x ∷ y ∷ z ∷ es) r h = refl
+pub write_vector-few : (at : Site) (n : ℕ) (es : List Expr) (r : Room) → length es < 3 → write_vector at n (expressions es) r ≡ refused WrongType at
+write_vector-few at n [] r h = refl
+write_vector-few at n (e ∷ []) r h = refl
+write_vector-few at n (e ∷ x ∷ []) r h = refl
+write_vector-few at n (e ∷ x ∷ y ∷ es) r h = absurd (omega arith)
 
-pub ruleset arguments = (fences-many, write_vector-other)
+pub write_vector-many : (at : Site) (n : ℕ) (es : List Expr) (r : Room) → 3 < length es → write_vector at n (expressions es) r ≡ refused WrongType at
+write_vector-many at n [] r h = absurd (omega arith)
+write_vector-many at n (e ∷ []) r h = absurd (omega arith)
+write_vector-many at n (e ∷ x ∷ []) r h = absurd (omega arith)
+write_vector-many at n (e ∷ x ∷ y ∷ []) r h = absurd (omega arith)
+write_vector-many at n (e ∷ x ∷ y ∷ z ∷ es) r h = refl
+
+pub ruleset arguments = (fences-many)
+
+pub ruleset vector_arguments = (write_vector-few, write_vector-many)

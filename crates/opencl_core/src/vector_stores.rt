@@ -194,7 +194,7 @@ fn vector_written(
 }
 
 /// Stores a vector, by the arguments of a `vstore`.
-#[tactic(auto, using(crate::proofs::Arguments::arguments))]
+#[tactic(auto, using(crate::proofs::Arguments::vector_arguments))]
 pub fn write_vector(
     alloc: Global,
     at: Site,
@@ -205,6 +205,9 @@ pub fn write_vector(
     ensures { Gives (λ _. seen.room room.new) result (rules.write_vector (site_seen at) width (expressions arguments.now) (seen.room room.old)) }
 {
     match arguments {
+        [] => refused(Fault::WrongType, at),
+        [_] => refused(Fault::WrongType, at),
+        [_, _] => refused(Fault::WrongType, at),
         [value, by, of] => vector_written(alloc, at, width, value, (by, of), room),
         _ => refused(Fault::WrongType, at),
     }

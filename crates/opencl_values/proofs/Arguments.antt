@@ -1,5 +1,5 @@
 -- Arguments of calls, by their number.
-use Rattle.std.proofs.Common.{◌≡◌, ◌≢◌, ◌<◌, ◌≤◌, ℕ, zero, suc, List, [], ◌∷◌, length, get_or, refl, arith}
+use Rattle.std.proofs.Common.{◌≡◌, ◌≢◌, ◌<◌, ◌≤◌, ℕ, zero, suc, List, [], ◌∷◌, length, get_or, slice_index_or, subst, sym, refl, arith}
 use Rattle.semantics.specs.Core as core
 use Rattle.semantics.specs.Word as word
 use Rattle.opencl_terms.specs.Operations as operations
@@ -48,25 +48,33 @@ expressions-one (e ∷ x ∷ es) d h = absurd (omega arith)
 
 pub ruleset one_argument = (dimension_of-many, expressions-one)
 
-pub vector_read-other : (names : Names) (site : core.Site) (n : ℕ) (es : List Expr) → length es ≢ 2 → vector_read names site n (expressions es) ≡ refused WrongType site
+pub vector_read-few : (names : Names) (site : core.Site) (n : ℕ) (es : List Expr) → length es < 2 → vector_read names site n (expressions es) ≡ refused WrongType site
 unfolding vector_read
-vector_read-other names site n [] h = refl
-vector_read-other names site n (e ∷ []) h = refl
-vector_read-other names site n (e ∷ x ∷ []) h = absurd (h refl)
-vector_read-other names site n (e ∷ x ∷ y ∷ es) h = refl
+vector_read-few names site n [] h = refl
+vector_read-few names site n (e ∷ []) h = refl
+vector_read-few names site n (e ∷ x ∷ es) h = absurd (omega arith)
+
+pub vector_read-many : (names : Names) (site : core.Site) (n : ℕ) (es : List Expr) → 2 < length es → vector_read names site n (expressions es) ≡ refused WrongType site
+unfolding vector_read
+vector_read-many names site n [] h = absurd (omega arith)
+vector_read-many names site n (e ∷ []) h = absurd (omega arith)
+vector_read-many names site n (e ∷ x ∷ []) h = absurd (omega arith)
+vector_read-many names site n (e ∷ x ∷ y ∷ es) h = refl
 
 pub wide_result-other : (ids : word.Kind) (w : Wide) (site : core.Site) (vs : List Value) → length vs ≢ 1 → wide_result ids w site (values vs) ≡ refused WrongType site
 wide_result-other ids w site [] h = refl
 wide_result-other ids w site (v ∷ []) h = absurd (h refl)
 wide_result-other ids w site (v ∷ u ∷ vs) h = refl
 
-pub vector_read-two : (names : Names) (site : core.Site) (n : ℕ) (es : List Expr) (d : Expr) → length es ≡ 2 → vector_read names site n (expressions es) ≡ then (value_of names (expression (get_or es 0 d))) (λ v. then (part_of names site (expression (get_or es 1 d))) (vector_at names.ids site n v))
+pub vector_read-is : (names : Names) (site : core.Site) (n : ℕ) (es : List Expr) (a b : Expr) → 2 ≤ length es → length es < 3 → a ≡ slice_index_or es 0 a → b ≡ slice_index_or es 1 b → vector_read names site n (expressions es) ≡ then (value_of names (expression a)) (λ v. then (part_of names site (expression b)) (vector_at names.ids site n v))
 unfolding vector_read
-vector_read-two names site n [] d h = absurd (omega arith)
-vector_read-two names site n (e ∷ []) d h = absurd (omega arith)
-vector_read-two names site n (e ∷ x ∷ []) d h = refl
-vector_read-two names site n (e ∷ x ∷ y ∷ es) d h = absurd (omega arith)
+vector_read-is names site n [] a b h g e f = absurd (omega arith)
+vector_read-is names site n (x ∷ []) a b h g e f = absurd (omega arith)
+vector_read-is names site n (x ∷ y ∷ []) a b h g e f =
+    subst (λ u. vector_read names site n (expressions (x ∷ y ∷ [])) ≡ then (value_of names (expression u)) (λ v. then (part_of names site (expression b)) (vector_at names.ids site n v))) (sym e)
+    (subst (λ w. vector_read names site n (expressions (x ∷ y ∷ [])) ≡ then (value_of names (expression x)) (λ v. then (part_of names site (expression w)) (vector_at names.ids site n v))) (sym f) refl)
+vector_read-is names site n (x ∷ y ∷ z ∷ es) a b h g e f = absurd (omega arith)
 
-pub ruleset read_arguments = (vector_read-other, vector_read-two)
+pub ruleset read_arguments = (vector_read-few, vector_read-many)
 
 pub ruleset other_arguments = (wide_result-other)

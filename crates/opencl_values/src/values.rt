@@ -279,6 +279,8 @@ fn vector_read(
     ensures { Gives value_seen result (rules.vector_read (names_seen names.entry) (site at) width (expressions arguments.now)) }
 {
     match arguments {
+        [] => refused(Fault::WrongType, at),
+        [_] => refused(Fault::WrongType, at),
         [by, of] => {
             let by = value_of(alloc, names, by)?;
             let part = part_of(alloc, names, at, of)?;

@@ -360,7 +360,12 @@ fn heeds_array(alloc: Global, array: Array, of: &Value, place: u32) -> Result<bo
 }
 
 /// Whether no component depends on an array.
-pub fn heed_none(alloc: Global, array: Array, of: &Value, places: &[u32]) -> Result<bool, AllocError>
+pub fn heed_none(
+    alloc: Global,
+    array: Array,
+    of: &Value,
+    places: &[u32],
+) -> Result<bool, AllocError>
     ensures { IfOk result (λ b. b ≡ rules.heed_none (array_seen array) (value_seen of.now) places.now) }
 {
     for place in places {

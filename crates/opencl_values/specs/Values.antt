@@ -92,7 +92,7 @@ unfoldable mutual
   value_of names (Name site name) = value_named site name (meaning_of names.visible name)
   value_of names (Call site name arguments) =
       call_meant names site name arguments (values_behind names [] arguments) (vector_read names site (width_read (read_width name)) arguments)
-          (meaning_of names.visible name) (form_named name)
+      (meaning_of names.visible name) (form_named name)
   value_of names (Index site of index) =
       then (part_of names site of) (λ p. then (value_of names index) (element_value site p))
   value_of names (Member site of name) = then (value_of names of) (λ v. member_of names.ids site v name)

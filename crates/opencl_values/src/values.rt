@@ -29,9 +29,7 @@ use crate::error::{Construct, Fault, ValueError, refused};
 use crate::functions::{Form, construct_called, form_named};
 use crate::members::member_of;
 use crate::names::{bytes_of, type_of_name};
-use crate::pointers::{
-    first_element, is_address, is_behind, is_indirection, moving, shifted_by,
-};
+use crate::pointers::{first_element, is_address, is_behind, is_indirection, moving, shifted_by};
 use crate::reads::{element_at, element_value, indexed_by, vector_at};
 use crate::scope::{Binding, Drawn, Meaning, Names, drawn_at, meaning_of};
 use crate::singles::Single;

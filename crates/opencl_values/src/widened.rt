@@ -93,12 +93,7 @@ fn front(name: &[u8], count: usize) -> &[u8]
 }
 
 // A name without some digits.
-fn without(
-    alloc: Global,
-    name: &[u8],
-    letters: usize,
-    digits: u32,
-) -> Result<Vec<u8>, AllocError>
+fn without(alloc: Global, name: &[u8], letters: usize, digits: u32) -> Result<Vec<u8>, AllocError>
     requires { letters ≤ length name.now }
     ensures { IfOk result (λ v. v.items ≡ rules.without name.now letters digits) }
 {

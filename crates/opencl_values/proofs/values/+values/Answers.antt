@@ -21,17 +21,17 @@ value_of-returns-in-Vector t c =
 pub vector_read-returns-in_err-by-in-len2 : goal.vector_read-returns-in_err-by-in-len2
 vector_read-returns-in_err-by-in-len2 t c =
     rw (vector_read-is (names c.args.names) (site c.args.at) c.args.width c.args.arguments.now c.by-item.result c.of-item.result
-        (omega (arith, c.in-len2.len_at_least)) (omega (arith, c.in-len2.len_below)) c.by-item.is c.of-item.is)
+    (omega (arith, c.in-len2.len_at_least)) (omega (arith, c.in-len2.len_below)) c.by-item.is c.of-item.is)
     (first_of (search rules, grind (arith, common_steps)))
 
 pub vector_read-returns-in_err-part-in-len2 : goal.vector_read-returns-in_err-part-in-len2
 vector_read-returns-in_err-part-in-len2 t c =
     rw (vector_read-is (names c.args.names) (site c.args.at) c.args.width c.args.arguments.now c.by-item.result c.of-item.result
-        (omega (arith, c.in-len2.len_at_least)) (omega (arith, c.in-len2.len_below)) c.by-item.is c.of-item.is)
+    (omega (arith, c.in-len2.len_at_least)) (omega (arith, c.in-len2.len_below)) c.by-item.is c.of-item.is)
     (first_of (search rules, grind (arith, common_steps)))
 
 pub vector_read-returns-in_ok-part-in-len2 : goal.vector_read-returns-in_ok-part-in-len2
 vector_read-returns-in_ok-part-in-len2 t c =
     rw (vector_read-is (names c.args.names) (site c.args.at) c.args.width c.args.arguments.now c.by-item.result c.of-item.result
-        (omega (arith, c.in-len2.len_at_least)) (omega (arith, c.in-len2.len_below)) c.by-item.is c.of-item.is)
+    (omega (arith, c.in-len2.len_at_least)) (omega (arith, c.in-len2.len_below)) c.by-item.is c.of-item.is)
     (first_of (search rules, grind (arith, common_steps)))

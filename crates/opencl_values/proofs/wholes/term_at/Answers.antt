@@ -12,5 +12,5 @@ pub returns-else-place-count : goal.returns-else-place-count
 returns-else-place-count c =
     given c.copy_of-else-place-count.result _ _
     (nth_with-last-is operations.nothing c.args.terms.now c.args.place c.index-terms-count.result c.if-count-eq0.false
-        c.if-place-count.false c.index-terms-count.is)
+    c.if-place-count.false c.index-terms-count.is)
     c.copy_of-else-place-count.ensures

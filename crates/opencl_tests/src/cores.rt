@@ -95,7 +95,7 @@ const REFUSED: &[(&str, &str, &str)] = &[
     ("int2 n; int n_s1; }", "}", "21 1:13 NameTwice"),
     ("__local int *n; }", "}", "35 1:14 LocalLength"),
     ("int *n; }", "}", "22 1:6 WrongType"),
-    ("int n; }", "int2 v = 1; v.xx = v; }", "22 1:15 WrongType"),
+    ("int n; }", "int2 v = 1; v.xx = v; }", "22 1:14 WrongType"),
     (
         "int n; }",
         "int2 v = 1; if (v) n = 1; }",

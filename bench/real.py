@@ -10,9 +10,9 @@ it. Of piglit one kernel a file counts; elsewhere kernels with the same text cou
 
 Each kernel is given to PROGRAM with conditions that are made of its parameters. Their last line is wrong on purpose: a kernel that is
 refused by it alone is read. With --preprocess clang expands the macros before; with --in-front what a host defines stands in front of the
-text; without either the conditions have `define` lines, which no program reads yet. With --prove each kernel that is read is also proved,
-in ten processor seconds at most, under conditions that relate nothing to anything. The tables go to the --out file too, each kernel with
-its answer to the --list file, as JSON.
+text; without either the conditions have `define` lines. With --prove each kernel that is read is also proved, in ten processor seconds at
+most, under conditions that relate nothing to anything. The tables go to the --out file too, each kernel with its answer to the --list
+file, as JSON.
 """
 import argparse
 import collections
@@ -385,7 +385,7 @@ def conditions(kernel, defines, budget):
     sizes = {1: [64, 1, 1], 2: [8, 8, 1], 3: [4, 4, 4]}
     size = kernel["size"] or sizes[kernel["dimensions"]]
     head = ["conditions 3", "kernel " + kernel["name"]]
-    head += ["define " + it.replace("=", " ", 1) for it in defines]
+    head += ["define " + line_of(it) for it in defines]
     head += [] if kernel["size"] else ["local_size %d %d %d" % tuple(size)]
     groups = "groups " + " ".join("1..16" if kernel["dimensions"] > at else "1..1" for at in range(3))
     locals_, arguments, lengths = [], [], []
@@ -455,7 +455,7 @@ def measure(words, source):
             continue
         text, declared = read(os.path.join(to, row["name"] + (".expanded.cl" if words.preprocess else ".cl"))), None
         defines = [] if words.preprocess else row["defines"]
-        # (a `define` line has a name, and tokens behind it; the others stand in front of the text, or all)
+        # (what no `define` line can say stands in front of the text, or all does)
         in_front = [it for it in defines if words.in_front or not is_line(it)]
         text = "".join(f"#define {(it if '=' in it else it + '=1').replace('=', ' ', 1)}\n" for it in in_front) + text
         defines = [it for it in defines if it not in in_front]
@@ -484,8 +484,13 @@ def measure(words, source):
 
 
 def is_line(define):
-    """Whether conditions can say a definition: its name is one, and it stands for something."""
-    return re.fullmatch(r"\w+(=.+)?", define, re.S) is not None
+    """Whether conditions can say a definition."""
+    return re.fullmatch(r"[A-Za-z_][ -~]*", define) is not None and len(line_of(define)) <= 255
+
+
+def line_of(define):
+    """A definition as a line of conditions has it behind its first word. What is no name alone stands for 1, too, where nothing is said."""
+    return define.replace("=", " ", 1) if "=" in define or re.fullmatch(r"\w+", define) else define + " 1"
 
 
 def head_lines(told):

@@ -58,7 +58,8 @@ const MEANINGS: &[(u8, &str)] = &[
     (
         13,
         "The preprocessor cannot read that line, or what a macro makes of it: a conditional that is not balanced, a macro with \
-         another number of arguments, or an #include. clang -E -P -x cl -cl-std=CL1.2 writes out what it stands for.",
+         another number of arguments, or an #include. clang -E -P -x cl -cl-std=CL1.2 writes out what it stands for. What a host \
+         defines by -D stands in lines define NAME TOKENS of the conditions (docs/FORMATS.md); a fault in one is told at 1:1.",
     ),
     (
         15,
@@ -71,7 +72,8 @@ const MEANINGS: &[(u8, &str)] = &[
     ),
     (
         20,
-        "A name is used that nothing visible declares: declare it before.",
+        "A name is used that nothing visible declares: declare it before. In OpenCL C a macro that the host defines is a line \
+         define NAME TOKENS of the conditions (docs/FORMATS.md).",
     ),
     (
         21,

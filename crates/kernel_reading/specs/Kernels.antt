@@ -85,7 +85,7 @@ as_opencl h s = opencl.read s.reading.devices h s.bytes
 
 -- a head says nothing
 abbrev pub is_silent : Head → Bool
-is_silent h = is_none h.kernel && (is_none h.sizes && nat_eq (length h.locals) 0)
+is_silent h = is_none h.kernel && (nat_eq (length h.defines) 0 && (is_none h.sizes && nat_eq (length h.locals) 0))
 
 -- where a text begins
 abbrev pub at_first : Site

@@ -138,7 +138,10 @@ fn plain_tree(alloc: Global, text: Source<'_>) -> Result<TypedTree, reading::Ker
 fn is_silent(head: &Head<'_>) -> bool
     ensures { result ≡ kernels.is_silent (texts.head head.now) }
 {
-    head.kernel.is_none() && head.sizes.is_none() && head.locals.is_empty()
+    head.kernel.is_none()
+        && head.defines.is_empty()
+        && head.sizes.is_none()
+        && head.locals.is_empty()
 }
 
 /// The head of a text of conditions; one of another version has none.
@@ -150,6 +153,7 @@ fn head_in<'a>(alloc: Global, text: &'a [u8]) -> Result<Head<'a>, LaunchTextErro
     }
     Ok(Head {
         kernel: None,
+        defines: Vec::new(alloc),
         sizes: None,
         locals: Vec::new(alloc),
     })

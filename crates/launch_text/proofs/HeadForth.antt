@@ -9,11 +9,12 @@ use Rattle.semantics.specs.Launch.{Three}
 use Rattle.lines.specs.Identifiers.{is_identifier}
 use Rattle.launch_text.specs.LaunchFaults.{Cursor, Step, cursor, expect}
 use Rattle.launch_text.specs.LaunchWords.{Conditions, due, due_blank, first_word, several}
-use Rattle.launch_text.specs.HeadReading.{LocalCount, Head, kernel_line, sizes_at, size_line, local_line, optional, head_at}
-use Rattle.launch_text.specs.ConditionsText.{kernel_text, sizes_text, local_text, head_text, AreSizes, IsLocal, IsHead}
+use Rattle.launch_text.specs.HeadReading.{LocalCount, Head, kernel_line, sizes_at, size_line, define_line, local_line, optional, head_at}
+use Rattle.launch_text.specs.ConditionsText.{kernel_text, define_text, sizes_text, local_text, head_text, IsDefinition, AreSizes, IsLocal, IsHead}
 use Rattle.launch_text.proofs.Several.{several_over, several_more}
 use Rattle.launch_text.proofs.Forth.{natural_forth, name_forth}
 use Rattle.launch_text.proofs.LinesForth.{blank_forth, end_forth, appended}
+use Rattle.launch_text.proofs.DefineForth.{define_forth}
 use Rattle.launch_text.proofs.HeadTaken.{kernel_shape, three_shape, sizes_shape, local_shape}
 
 kernel_due : (rest : List ℕ) (n : ℕ) → due_blank Conditions (codes "kernel") (cursor n (codes "kernel " ++ rest)) ≡ Ok (cursor n rest)
@@ -83,27 +84,37 @@ IsBehind rest = first_word rest ≡ codes "groups"
 not_in : (keyword rest : List ℕ) → IsBehind rest → bytes_eq (codes "groups") keyword ≡ false → bytes_eq (first_word rest) keyword ≡ false
 not_in keyword rest b h = ap (λ w. bytes_eq w keyword) b ∙ h
 
-locals_next : (keyword : List ℕ) (ls : List LocalCount) (rest : List ℕ) → bytes_eq (codes "local") keyword ≡ false → bytes_eq (first_word rest) keyword ≡ false → bytes_eq (first_word (flat_map local_text ls ++ rest)) keyword ≡ false
-locals_next keyword [] rest a b = b
-locals_next keyword (l ∷ ls) rest a b = a
+lines_next : {A : Type 0} (text : A → List ℕ) (word keyword : List ℕ) → ((a : A) (others : List ℕ) → first_word (text a ++ others) ≡ word) → (ls : List A) (rest : List ℕ)
+    → bytes_eq word keyword ≡ false → bytes_eq (first_word rest) keyword ≡ false → bytes_eq (first_word (flat_map text ls ++ rest)) keyword ≡ false
+lines_next text word keyword first [] rest a b = b
+lines_next text word keyword first (l ∷ ls) rest a b =
+    ap (λ bytes. bytes_eq (first_word bytes) keyword) (append_assoc (text l) (flat_map text ls) rest) ∙ ap (λ w. bytes_eq w keyword) (first l (flat_map text ls ++ rest)) ∙ a
+
+local_first : (l : LocalCount) (others : List ℕ) → first_word (local_text l ++ others) ≡ codes "local"
+local_first l others = refl
+
+define_first : (line others : List ℕ) → first_word (define_text line ++ others) ≡ codes "define"
+define_first line others = refl
 
 sizes_next : (keyword : List ℕ) (sizes : Option (Three ℕ)) (rest : List ℕ) → bytes_eq (codes "local_size") keyword ≡ false → bytes_eq (first_word rest) keyword ≡ false → bytes_eq (first_word (sizes_text sizes ++ rest)) keyword ≡ false
 sizes_next keyword None rest a b = b
 sizes_next keyword (Some s) rest a b = a
 
-locals_forth : (room : ℕ) (done ls : List LocalCount) (rest : List ℕ) (n : ℕ) → All IsLocal ls → length ls ≤ room → bytes_eq (first_word rest) (codes "local") ≡ false
-    → (m : ℕ) × (several (codes "local") local_line room done (cursor n (flat_map local_text ls ++ rest)) ≡ Ok (done ++ ls, cursor m rest))
-locals_forth room done [] rest n are few h =
-    (n, several_over (codes "local") local_line room done (cursor n rest) h ∙ ap (λ xs. let r : Step (List LocalCount × Cursor) = Ok (xs, cursor n rest) in r) (sym (append-nil done)))
-locals_forth zero done (l ∷ ls) rest n are few h = absurd (omega (arith, few))
-locals_forth (suc room) done (l ∷ ls) rest n are few h =
-    let others = flat_map local_text ls in
-    let more = locals_forth room (done ++ l ∷ []) ls rest (n + 1) (All-tail IsLocal l ls are) (omega (arith, few)) h in (
-      more.0,
-      ap (λ bytes. several (codes "local") local_line (suc room) done (cursor n bytes)) (append_assoc (local_text l) others rest)
-          ∙ several_more (codes "local") local_line room done (cursor n (local_text l ++ (others ++ rest))) (cursor (n + 1) (others ++ rest)) l refl (local_forth l (others ++ rest) n (All-head IsLocal l ls are))
-          ∙ more.1 ∙ appended done l ls (cursor more.0 rest),
-    )
+-- lines of one first word
+module _ {A : Type 0} (keyword : List ℕ) (line : Cursor → Step (A × Cursor)) (text : A → List ℕ) (Is : A → Type 0) (first : (a : A) (others : List ℕ) → bytes_eq (first_word (text a ++ others)) keyword ≡ true) (one : (a : A) (others : List ℕ) (n : ℕ) → Is a → line (cursor n (text a ++ others)) ≡ Ok (a, cursor (n + 1) others)) where
+  lines_forth : (room : ℕ) (done ls : List A) (rest : List ℕ) (n : ℕ) → All Is ls → length ls ≤ room → bytes_eq (first_word rest) keyword ≡ false
+      → (m : ℕ) × (several keyword line room done (cursor n (flat_map text ls ++ rest)) ≡ Ok (done ++ ls, cursor m rest))
+  lines_forth room done [] rest n are few h =
+      (n, several_over keyword line room done (cursor n rest) h ∙ ap (λ xs. let r : Step (List A × Cursor) = Ok (xs, cursor n rest) in r) (sym (append-nil done)))
+  lines_forth zero done (l ∷ ls) rest n are few h = absurd (omega (arith, few))
+  lines_forth (suc room) done (l ∷ ls) rest n are few h =
+      let others = flat_map text ls in
+      let more = lines_forth room (done ++ l ∷ []) ls rest (n + 1) (All-tail Is l ls are) (omega (arith, few)) h in (
+        more.0,
+        ap (λ bytes. several keyword line (suc room) done (cursor n bytes)) (append_assoc (text l) others rest)
+            ∙ several_more keyword line room done (cursor n (text l ++ (others ++ rest))) (cursor (n + 1) (others ++ rest)) l (first l (others ++ rest)) (one l (others ++ rest) n (All-head Is l ls are))
+            ∙ more.1 ∙ appended done l ls (cursor more.0 rest),
+      )
 
 optional_kernel : (kernel : Option (List ℕ)) (rest : List ℕ) (n : ℕ) → IfSome kernel (λ name. is_identifier name ≡ true) → bytes_eq (first_word rest) (codes "kernel") ≡ false → (m : ℕ) × (optional (codes "kernel") kernel_line (cursor n (kernel_text kernel ++ rest)) ≡ Ok (kernel, cursor m rest))
 optional_kernel None rest n i h = (n, optional_skips (codes "kernel") kernel_line (cursor n rest) h)
@@ -115,17 +126,26 @@ optional_sizes None rest n i h = (n, optional_skips (codes "local_size") size_li
 optional_sizes (Some s) rest n i h =
     (n + 1, optional_goes (codes "local_size") size_line (cursor n (sizes_text (Some s) ++ rest)) (cursor (n + 1) rest) s refl (sizes_forth s rest n i))
 
-head_shape : (kernel sizes locals rest : List ℕ) → (kernel ++ (sizes ++ locals)) ++ rest ≡ kernel ++ (sizes ++ (locals ++ rest))
-head_shape kernel sizes locals rest = simp append_assoc
+head_shape : (kernel defines sizes locals rest : List ℕ) → (kernel ++ (defines ++ (sizes ++ locals))) ++ rest ≡ kernel ++ (defines ++ (sizes ++ (locals ++ rest)))
+head_shape kernel defines sizes locals rest = simp append_assoc
+
+local_sees : (l : LocalCount) (others : List ℕ) → bytes_eq (first_word (local_text l ++ others)) (codes "local") ≡ true
+local_sees l others = refl
+
+define_sees : (line others : List ℕ) → bytes_eq (first_word (define_text line ++ others)) (codes "define") ≡ true
+define_sees line others = refl
 
 pub head_forth : (h : Head) (rest : List ℕ) (n : ℕ) → IsHead h → IsBehind rest → (m : ℕ) × (head_at (cursor n (head_text h ++ rest)) ≡ Ok (h, cursor m rest))
 unfolding head_at
 head_forth h rest n is behind =
     let locals : List ℕ = flat_map local_text h.locals in
     let sizes : List ℕ = sizes_text h.sizes in
-    let no_kernel = sizes_next (codes "kernel") h.sizes (locals ++ rest) refl (locals_next (codes "kernel") h.locals rest refl (not_in (codes "kernel") rest behind refl)) in
-    let no_size = locals_next (codes "local_size") h.locals rest refl (not_in (codes "local_size") rest behind refl) in
-    let k = optional_kernel h.kernel (sizes ++ (locals ++ rest)) n is.kernel no_kernel in
-    let s = optional_sizes h.sizes (locals ++ rest) k.0 is.sizes no_size in
-    let l = locals_forth 64 [] h.locals rest s.0 is.locals is.few_locals (not_in (codes "local") rest behind refl) in
-    (l.0, rw (head_shape (kernel_text h.kernel) sizes locals rest, k.1, s.1, l.1) refl)
+    let defines : List ℕ = flat_map define_text h.defines in
+    let behind_sizes = λ (keyword : List ℕ) (a : bytes_eq (codes "local") keyword ≡ false) (b : bytes_eq (codes "groups") keyword ≡ false). lines_next local_text (codes "local") keyword local_first h.locals rest a (not_in keyword rest behind b) in
+    let no_define = sizes_next (codes "define") h.sizes (locals ++ rest) refl (behind_sizes (codes "define") refl refl) in
+    let no_kernel = lines_next define_text (codes "define") (codes "kernel") define_first h.defines (sizes ++ (locals ++ rest)) refl (sizes_next (codes "kernel") h.sizes (locals ++ rest) refl (behind_sizes (codes "kernel") refl refl)) in
+    let k = optional_kernel h.kernel (defines ++ (sizes ++ (locals ++ rest))) n is.kernel no_kernel in
+    let d = lines_forth (codes "define") define_line define_text IsDefinition define_sees define_forth 256 [] h.defines (sizes ++ (locals ++ rest)) k.0 is.defines is.few_defines no_define in
+    let s = optional_sizes h.sizes (locals ++ rest) d.0 is.sizes (behind_sizes (codes "local_size") refl refl) in
+    let l = lines_forth (codes "local") local_line local_text IsLocal local_sees local_forth 64 [] h.locals rest s.0 is.locals is.few_locals (not_in (codes "local") rest behind refl) in
+    (l.0, rw (head_shape (kernel_text h.kernel) defines sizes locals rest, k.1, d.1, s.1, l.1) refl)

@@ -11,10 +11,11 @@ use Rattle.lines.specs.Bytes.{is_word_byte}
 use Rattle.lines.specs.Identifiers.{all_word_bytes, is_identifier}
 use Rattle.launch_text.specs.LaunchFaults.{Expected, LimitPassed, Cursor, Step, refused, then, past, expect, end_line}
 use Rattle.launch_text.specs.LaunchWords.{Conditions, natural_at, begins_name, name_at, first_word, due_blank, several}
-use Rattle.launch_text.specs.HeadReading.{LocalCount, Head, local_of, head_with, sizes_of, kernel_line, sizes_at, size_line, local_line, optional, local_lines, head_at}
-use Rattle.launch_text.specs.ConditionsText.{kernel_text, sizes_text, local_text, head_text, AreSizes, IsLocal, IsHead}
+use Rattle.launch_text.specs.HeadReading.{LocalCount, Head, local_of, head_with, sizes_of, kernel_line, sizes_at, size_line, define_line, define_lines, local_line, optional, local_lines, head_at}
+use Rattle.launch_text.specs.ConditionsText.{kernel_text, define_text, sizes_text, local_text, head_text, IsDefinition, AreSizes, IsLocal, IsHead}
 use Rattle.launch_text.proofs.Back.{then_back, same_back, when_back, natural_back}
 use Rattle.launch_text.proofs.Forth.{one_more, letter_in_word}
+use Rattle.launch_text.proofs.DefineTaken.{define_took}
 use Rattle.launch_text.proofs.Taken.{expect_took, end_took, natural_took, name_took, due_blank_took}
 
 -- a name that is read is an identifier
@@ -145,57 +146,64 @@ module _ {A : Type 0} (keyword : List ℕ) (line : Cursor → Step (A × Cursor)
       (λ _ e. subst (λ (r : Option A × Cursor). TookOptional c r) (same_back (None, c) t e) (ap (λ x. x ++ c.rest) (sym none), tt))
 
 -- lines behind those that were read before
-record TookLocals (room : ℕ) (done : List LocalCount) (c : Cursor) (t : List LocalCount × Cursor) : Type 0 where
-  pub read : List LocalCount
+record TookLines {A : Type 0} (text : A → List ℕ) (Is : A → Type 0) (room : ℕ) (done : List A) (c : Cursor) (t : List A × Cursor) : Type 0 where
+  pub read : List A
   pub all : t.0 ≡ done ++ read
-  pub rest : c.rest ≡ flat_map local_text read ++ t.1.rest
-  pub are : All IsLocal read
+  pub rest : c.rest ≡ flat_map text read ++ t.1.rest
+  pub are : All Is read
   pub few : length read ≤ room
 
-no_local : (room : ℕ) (done : List LocalCount) (c : Cursor) (t : List LocalCount × Cursor) → (let s : Step (List LocalCount × Cursor) = Ok (done, c) in s ≡ Ok t) → TookLocals room done c t
-no_local room done c t e =
-    subst (λ t. TookLocals room done c t) (same_back (done, c) t e) (record { read = []; all = sym (append-nil done); rest = refl; are = All-nil IsLocal; few = omega arith })
+module _ {A : Type 0} (keyword : List ℕ) (line : Cursor → Step (A × Cursor)) (text : A → List ℕ) (Is : A → Type 0) (one : (c : Cursor) (t : A × Cursor) → line c ≡ Ok t → (c.rest ≡ text t.0 ++ t.1.rest) × Is t.0) where
+  no_line : (room : ℕ) (done : List A) (c : Cursor) (t : List A × Cursor) → (let s : Step (List A × Cursor) = Ok (done, c) in s ≡ Ok t) → TookLines text Is room done c t
+  no_line room done c t e =
+      subst (λ t. TookLines text Is room done c t) (same_back (done, c) t e) (record { read = []; all = sym (append-nil done); rest = refl; are = All-nil Is; few = omega arith })
 
-one_local : (room : ℕ) (done : List LocalCount) (l : LocalCount) (c d : Cursor) (t : List LocalCount × Cursor) → TookLocal c (l, d) → TookLocals room (done ++ l ∷ []) d t → TookLocals (suc room) done c t
-one_local room done l c d t one others = record {
-  read = l ∷ others.read;
-  all = others.all ∙ append_assoc done (l ∷ []) others.read;
-  rest = one.0 ∙ ap (λ x. local_text l ++ x) others.rest ∙ sym (append_assoc (local_text l) (flat_map local_text others.read) t.1.rest);
-  are = All-cons IsLocal l others.read one.1 others.are;
-  few = omega (arith, others.few);
-}
+  one_line : (room : ℕ) (done : List A) (l : A) (c d : Cursor) (t : List A × Cursor) → (c.rest ≡ text l ++ d.rest) × Is l → TookLines text Is room (done ++ l ∷ []) d t → TookLines text Is (suc room) done c t
+  one_line room done l c d t own others = record {
+    read = l ∷ others.read;
+    all = others.all ∙ append_assoc done (l ∷ []) others.read;
+    rest = own.0 ∙ ap (λ x. text l ++ x) others.rest ∙ sym (append_assoc (text l) (flat_map text others.read) t.1.rest);
+    are = All-cons Is l others.read own.1 others.are;
+    few = omega (arith, others.few);
+  }
 
-locals_took : (room : ℕ) (done : List LocalCount) (c : Cursor) (t : List LocalCount × Cursor) → several (codes "local") local_line room done c ≡ Ok t → TookLocals room done c t
-unfolding several
-locals_took zero done c t =
-    cond_both (bytes_eq (first_word c.rest) (codes "local")) (refused LimitPassed c) (Ok (done, c)) (λ s. s ≡ Ok t → TookLocals zero done c t)
-    (λ _ e. absurd cc) (λ _ e. no_local zero done c t e)
-locals_took (suc room) done c t =
-    cond_both (bytes_eq (first_word c.rest) (codes "local")) (then (local_line c) (λ u. several (codes "local") local_line room (done ++ u.0 ∷ []) u.1)) (Ok (done, c)) (λ s. s ≡ Ok t → TookLocals (suc room) done c t)
-    (λ _ e. let u = then_back (local_line c) _ t e in
-    one_local room done u.0.0 c u.0.1 t (local_took c u.0 u.1) (locals_took room (done ++ u.0.0 ∷ []) u.0.1 t u.2))
-    (λ _ e. no_local (suc room) done c t e)
+  lines_took : (room : ℕ) (done : List A) (c : Cursor) (t : List A × Cursor) → several keyword line room done c ≡ Ok t → TookLines text Is room done c t
+  unfolding several
+  lines_took zero done c t =
+      cond_both (bytes_eq (first_word c.rest) keyword) (refused LimitPassed c) (Ok (done, c)) (λ s. s ≡ Ok t → TookLines text Is zero done c t)
+      (λ _ e. absurd cc) (λ _ e. no_line zero done c t e)
+  lines_took (suc room) done c t =
+      cond_both (bytes_eq (first_word c.rest) keyword) (then (line c) (λ u. several keyword line room (done ++ u.0 ∷ []) u.1)) (Ok (done, c)) (λ s. s ≡ Ok t → TookLines text Is (suc room) done c t)
+      (λ _ e. let u = then_back (line c) _ t e in
+      one_line room done u.0.0 c u.0.1 t (one c u.0 u.1) (lines_took room (done ++ u.0.0 ∷ []) u.0.1 t u.2))
+      (λ _ e. no_line (suc room) done c t e)
 
 -- what a head said
 abbrev pub TookHead : Cursor → Head × Cursor → Type 0
 TookHead c t = (c.rest ≡ head_text t.0 ++ t.1.rest) × IsHead t.0
 
-head_joined : (kernel sizes locals rest whole a b : List ℕ) → whole ≡ kernel ++ a → a ≡ sizes ++ b → b ≡ locals ++ rest → whole ≡ (kernel ++ (sizes ++ locals)) ++ rest
-head_joined kernel sizes locals rest whole a b p q r = p ∙ ap (λ x. kernel ++ x) (q ∙ ap (λ x. sizes ++ x) r) ∙ simp append_assoc
+head_joined : (kernel defines sizes locals rest whole a b d : List ℕ) → whole ≡ kernel ++ a → a ≡ defines ++ b → b ≡ sizes ++ d → d ≡ locals ++ rest → whole ≡ (kernel ++ (defines ++ (sizes ++ locals))) ++ rest
+head_joined kernel defines sizes locals rest whole a b d p q r s =
+    p ∙ ap (λ x. kernel ++ x) (q ∙ ap (λ x. defines ++ x) (r ∙ ap (λ x. sizes ++ x) s)) ∙ simp append_assoc
 
 pub head_took : (c : Cursor) (t : Head × Cursor) → head_at c ≡ Ok t → TookHead c t
 unfolding head_at
 head_took c t e =
     let k = then_back (optional (codes "kernel") kernel_line c) _ t e in
-    let s = then_back (optional (codes "local_size") size_line k.0.1) _ t k.2 in
+    let f = then_back (define_lines k.0.1) _ t k.2 in
+    let s = then_back (optional (codes "local_size") size_line f.0.1) _ t f.2 in
     let l = then_back (local_lines s.0.1) _ t s.2 in
     let kernel = optional_took (codes "kernel") kernel_line kernel_text refl (λ name. is_identifier name ≡ true) kernel_took c k.0 k.1 in
-    let sizes = optional_took (codes "local_size") size_line sizes_text refl AreSizes sizes_took k.0.1 s.0 s.1 in
-    let locals = locals_took 64 [] s.0.1 l.0 l.1 in
-    subst (λ (r : Head × Cursor). TookHead c r) (same_back (head_with k.0.0 s.0.0 l.0.0, l.0.1) t l.2) (
-      head_joined (kernel_text k.0.0) (sizes_text s.0.0) (flat_map local_text l.0.0) l.0.1.rest c.rest k.0.1.rest s.0.1.rest kernel.0 sizes.0 (subst (λ ls. s.0.1.rest ≡ flat_map local_text ls ++ l.0.1.rest) (sym locals.all) locals.rest),
+    let defines = lines_took (codes "define") define_line define_text IsDefinition define_took 256 [] k.0.1 f.0 f.1 in
+    let sizes = optional_took (codes "local_size") size_line sizes_text refl AreSizes sizes_took f.0.1 s.0 s.1 in
+    let locals = lines_took (codes "local") local_line local_text IsLocal local_took 64 [] s.0.1 l.0 l.1 in
+    subst (λ (r : Head × Cursor). TookHead c r) (same_back (head_with k.0.0 f.0.0 s.0.0 l.0.0, l.0.1) t l.2) (
+      head_joined (kernel_text k.0.0) (flat_map define_text f.0.0) (sizes_text s.0.0) (flat_map local_text l.0.0) l.0.1.rest c.rest k.0.1.rest f.0.1.rest s.0.1.rest kernel.0
+          (subst (λ ls. k.0.1.rest ≡ flat_map define_text ls ++ f.0.1.rest) (sym defines.all) defines.rest) sizes.0 (subst (λ ls. s.0.1.rest ≡ flat_map local_text ls ++ l.0.1.rest) (sym locals.all) locals.rest),
       record {
         kernel = kernel.1;
+        defines = subst (All IsDefinition) (sym defines.all) defines.are;
+        few_defines = subst (λ (ls : List (List ℕ)). length ls ≤ 256) (sym defines.all) defines.few;
         sizes = sizes.1;
         locals = subst (All IsLocal) (sym locals.all) locals.are;
         few_locals = subst (λ (ls : List LocalCount). length ls ≤ 64) (sym locals.all) locals.few;

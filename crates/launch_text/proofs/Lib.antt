@@ -3,11 +3,12 @@ pub mod ConditionsFit
 pub mod ConditionsForth
 pub mod ConditionsTaken
 pub mod Counts
+pub mod DefineForth
+pub mod DefineTaken
 pub mod Fills
 pub mod FitsRead
 pub mod Forth
 pub mod HeadForth
-pub mod HeadPassed
 pub mod HeadTaken
 pub mod LaunchFit
 pub mod LaunchForth

@@ -10,7 +10,8 @@ use Rattle.lines.specs.Lines.{line_feed}
 use Rattle.texts.specs.Surface.{Parameter, Buffer, Value}
 use Rattle.lines.specs.Identifiers.{is_identifier}
 use Rattle.launch_text.specs.LaunchSums.{value_number, buffer_number, times}
-use Rattle.launch_text.specs.HeadReading.{LocalCount, Head, no_head}
+use Rattle.launch_text.specs.LaunchWords.{begins_name}
+use Rattle.launch_text.specs.HeadReading.{LocalCount, Head, no_head, are_printable}
 
 -- a number of a sum: at most 4,294,967,295 in size
 abbrev pub IsFactor : ℤ → Type 0
@@ -127,6 +128,10 @@ abbrev pub kernel_text : Option (List ℕ) → List ℕ
 kernel_text None = []
 kernel_text (Some name) = codes "kernel " ++ (name ++ line_feed ∷ [])
 
+-- `define NAME TOKENS`
+abbrev pub define_text : List ℕ → List ℕ
+define_text line = codes "define " ++ (line ++ line_feed ∷ [])
+
 -- `local_size X Y Z`
 abbrev pub sizes_text : Option (Three ℕ) → List ℕ
 sizes_text None = []
@@ -138,7 +143,13 @@ local_text l = codes "local " ++ (l.name ++ (codes " " ++ (decimal l.count ++ li
 
 -- the lines of a head, one after another
 abbrev pub head_text : Head → List ℕ
-head_text h = kernel_text h.kernel ++ (sizes_text h.sizes ++ flat_map local_text h.locals)
+head_text h = kernel_text h.kernel ++ (flat_map define_text h.defines ++ (sizes_text h.sizes ++ flat_map local_text h.locals))
+
+-- a letter or `_` and printable bytes behind it
+pub record IsDefinition (line : List ℕ) : Type 0 where
+  pub begins : begins_name line ≡ true
+  pub printable : are_printable line ≡ true
+  pub short : length line ≤ 255
 
 abbrev pub IsSize : ℕ → Type 0
 IsSize n = (1 ≤ n) × (n ≤ 1024)
@@ -152,6 +163,8 @@ IsLocal l = (is_identifier l.name ≡ true) × (1 ≤ l.count) × (l.count ≤ 1
 -- what a head may say
 pub record IsHead (h : Head) : Type 0 where
   pub kernel : IfSome h.kernel (λ name. is_identifier name ≡ true)
+  pub defines : All IsDefinition h.defines
+  pub few_defines : length h.defines ≤ 256
   pub sizes : IfSome h.sizes AreSizes
   pub locals : All IsLocal h.locals
   pub few_locals : length h.locals ≤ 64

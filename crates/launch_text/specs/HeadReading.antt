@@ -1,29 +1,32 @@
--- Reading the head of a conditions text of version 3: which kernel of a file is meant, how many work-items a group has, and how many
--- elements local buffers have. Its lines stand between the first line and that of groups.
-use Rattle.std.specs.Prelude.{ℕ, List, [], cond, Option, None, Some, Ok, codes, bytes_eq}
+-- Reading the head of a conditions text of version 3: which kernel of a file is meant, what a host defines for its text, how many
+-- work-items a group has, and how many elements local buffers have. Its lines stand between the first line and that of groups.
+use Rattle.std.specs.Prelude.{ℕ, List, [], ◌∷◌, take, Bool, true, cond, ◌&&◌, nat_le, Option, None, Some, Ok, codes, bytes_eq}
+use Rattle.std.specs.List.{prefix_len}
 use Rattle.semantics.specs.Launch.{Three}
-use Rattle.launch_text.specs.LaunchFaults.{Cursor, Step, then, expect, end_line}
-use Rattle.launch_text.specs.LaunchWords.{Conditions, natural_at, name_at, first_word, due_blank, several}
+use Rattle.launch_text.specs.LaunchFaults.{Expected, LimitPassed, Cursor, Step, refused, then, past, expect, end_line}
+use Rattle.launch_text.specs.LaunchWords.{Conditions, natural_at, begins_name, name_at, first_word, due_blank, several}
 
 -- how many elements the local buffer of this name has
 pub record LocalCount : Type 0 where
   pub name : List ℕ
   pub count : ℕ
 
--- the name of the kernel, and the work-items of a group in each dimension, where the head says them
+-- the name of the kernel, and the work-items of a group in each dimension, where the head says them; what is defined for its text, each
+-- as a line of its own says it
 pub record Head : Type 0 where
   pub kernel : Option (List ℕ)
+  pub defines : List (List ℕ)
   pub sizes : Option (Three ℕ)
   pub locals : List LocalCount
 
 abbrev pub local_of : (name : List ℕ) (count : ℕ) → LocalCount
 local_of name count = record { name = name; count = count }
 
-abbrev pub head_with : Option (List ℕ) → Option (Three ℕ) → List LocalCount → Head
-head_with kernel sizes locals = record { kernel = kernel; sizes = sizes; locals = locals }
+abbrev pub head_with : Option (List ℕ) → (defines : List (List ℕ)) → Option (Three ℕ) → List LocalCount → Head
+head_with kernel defines sizes locals = record { kernel = kernel; defines = defines; sizes = sizes; locals = locals }
 
 abbrev pub no_head : Head
-no_head = head_with None None []
+no_head = head_with None [] None []
 
 abbrev pub sizes_of : (x y z : ℕ) → Three ℕ
 sizes_of x y z = record { x = x; y = y; z = z }
@@ -31,6 +34,29 @@ sizes_of x y z = record { x = x; y = y; z = z }
 -- `kernel NAME`
 unfoldable pub kernel_line : Cursor → Step (List ℕ × Cursor)
 kernel_line c = then (due_blank Conditions (codes "kernel") c) (λ a. then (name_at a) (λ t. then (end_line t.1) (λ d. Ok (t.0, d))))
+
+-- printable ASCII
+abbrev pub is_printable : ℕ → Bool
+is_printable b = nat_le 32 b && nat_le b 126
+
+abbrev pub are_printable : List ℕ → Bool
+are_printable [] = true
+are_printable (b ∷ bytes) = is_printable b && are_printable bytes
+
+-- what is defined: a letter or `_`, and all that is printable behind it, at most 255 bytes in all
+unfoldable pub definition_at : Cursor → Step (List ℕ × Cursor)
+definition_at c =
+    cond (begins_name c.rest) (
+    cond (nat_le (prefix_len is_printable c.rest) 255) (Ok (take (prefix_len is_printable c.rest) c.rest, past (prefix_len is_printable c.rest) c))
+    (refused LimitPassed c)) (refused Expected c)
+
+-- `define NAME TOKENS`
+unfoldable pub define_line : Cursor → Step (List ℕ × Cursor)
+define_line c = then (due_blank Conditions (codes "define") c) (λ a. then (definition_at a) (λ t. then (end_line t.1) (λ d. Ok (t.0, d))))
+
+-- as many as there are, at most 256
+abbrev pub define_lines : Cursor → Step (List (List ℕ) × Cursor)
+define_lines c = several (codes "define") define_line 256 [] c
 
 -- three sizes, each 1 to 1,024
 unfoldable pub sizes_at : Cursor → Step (Three ℕ × Cursor)
@@ -56,15 +82,11 @@ optional keyword line c = cond (bytes_eq (first_word c.rest) keyword) (then (lin
 abbrev pub local_lines : Cursor → Step (List LocalCount × Cursor)
 local_lines c = several (codes "local") local_line 64 [] c
 
--- the lines are passed over
-abbrev pub past_locals : Cursor → Step Cursor
-past_locals c = then (local_lines c) (λ t. Ok t.1)
-
 -- all its lines
 unfoldable pub head_at : Cursor → Step (Head × Cursor)
 head_at c =
-    then (optional (codes "kernel") kernel_line c) (λ kernel. then (optional (codes "local_size") size_line kernel.1) (λ sizes. then (local_lines sizes.1) (λ locals.
-    Ok (head_with kernel.0 sizes.0 locals.0, locals.1))))
+    then (optional (codes "kernel") kernel_line c) (λ kernel. then (define_lines kernel.1) (λ defines. then (optional (codes "local_size") size_line defines.1) (λ sizes.
+    then (local_lines sizes.1) (λ locals. Ok (head_with kernel.0 defines.0 sizes.0 locals.0, locals.1)))))
 
 -- the lines are passed over
 abbrev pub past_head : Cursor → Step Cursor

@@ -2,6 +2,7 @@
 use Rattle.std.specs.Prelude.{ℕ, List, map, slice_index, Vec}
 use Rattle.std.specs.Option.{option_map}
 use Rattle.std.specs.declared.alloc.Global.{Global}
+use denote.Ref.{Bor}
 use Rattle.semantics.specs.Launch as launches
 use Rattle.semantics.specs.Word as semantics
 use Rattle.launch_text.specs.Answers.{bytes}
@@ -77,5 +78,8 @@ local l = heads.local_of l.name.now l.count
 abbrev pub locals : Vec LocalCount Global → List heads.LocalCount
 locals ls = map local ls.items
 
+abbrev pub defines : Vec (Bor (List ℕ)) Global → List (List ℕ)
+defines ds = map bytes ds.items
+
 abbrev pub head : Head → heads.Head
-head h = heads.head_with (option_map bytes h.kernel) (option_map sizes h.sizes) (locals h.locals)
+head h = heads.head_with (option_map bytes h.kernel) (defines h.defines) (option_map sizes h.sizes) (locals h.locals)

@@ -216,21 +216,25 @@ fn numbered_line(at: Cursor<'_>, may_be_two: bool) -> Result<(bool, Cursor<'_>),
 
 /// The end of the first line of a text of version 3, and its head, which is passed over.
 #[tactic(auto, unfolding(crate::specs::ConditionsReading::headed_line))]
-fn headed_line(at: Cursor<'_>) -> Result<(bool, Cursor<'_>), LaunchTextError>
+fn headed_line<'a>(alloc: Global, at: Cursor<'a>) -> Result<(bool, Cursor<'a>), LaunchTextError>
     ensures { Gives (read same) result (meaning.headed_line (cursor at.entry)) }
 {
-    let after = past_head(at.end_line()?)?;
+    let after = past_head(alloc, at.end_line()?)?;
     Ok((true, after))
 }
 
 /// The first line, and the head behind it.
 #[tactic(auto, unfolding(crate::specs::ConditionsReading::version_line))]
-fn version_line(at: Cursor<'_>, may_be_two: bool) -> Result<(bool, Cursor<'_>), LaunchTextError>
+fn version_line<'a>(
+    alloc: Global,
+    at: Cursor<'a>,
+    may_be_two: bool,
+) -> Result<(bool, Cursor<'a>), LaunchTextError>
     ensures { Gives (read same) result (meaning.version_line may_be_two (cursor at.entry)) }
 {
     let after = due(at, Form::Conditions, "conditions")?;
     match strip_mark(after, " 3", may_be_two) {
-        Some(behind) => headed_line(behind),
+        Some(behind) => headed_line(alloc, behind),
         None => numbered_line(after, may_be_two),
     }
 }
@@ -245,7 +249,7 @@ fn conditions<'a>(
     requires { length parameters.now ≤ most_names }
     ensures { Gives view.lined result (meaning.conditions_at may_be_two (map parameter_of parameters.now) (cursor at.entry)) }
 {
-    let (is_two, head) = version_line(at, may_be_two)?;
+    let (is_two, head) = version_line(alloc, at, may_be_two)?;
     let (groups, after) = groups_line(head)?;
     let (arguments, after) = argument_lines(alloc, after, parameters)?;
     let (lengths, after) = length_lines(alloc, after, parameters, is_two)?;

@@ -10,6 +10,7 @@ ghost use Rattle.launch_text.specs.View as view;
 
 use crate::conditions::CONDITIONS_LIMIT;
 use crate::cursor::Cursor;
+use crate::define::define_lines;
 use crate::error::{LaunchFault, LaunchTextError};
 use crate::keyword::{Form, begins, due_blank};
 use crate::name::name;
@@ -29,11 +30,12 @@ pub struct LocalCount<'a> {
     pub count: u32,
 }
 
-/// The name of the kernel, and the work-items of a group in each dimension, each 1 to 1,024, where the head says them, and the lengths of
-/// local buffers, at most 64.
+/// The name of the kernel, and the work-items of a group in each dimension, each 1 to 1,024, where the head says them; what is defined for
+/// its text, each as a line says it behind its first word, at most 256, and the lengths of local buffers, at most 64.
 #[derive(Drop)]
 pub struct Head<'a> {
     pub kernel: Option<&'a str>,
+    pub defines: Vec<&'a [u8]>,
     pub sizes: Option<[u32; 3]>,
     pub locals: Vec<LocalCount<'a>>,
 }
@@ -132,47 +134,30 @@ fn local_lines<'a>(
     Ok((locals, rest))
 }
 
-/// The cursor past the lines of local buffers.
-fn past_locals(at: Cursor<'_>) -> Result<Cursor<'_>, LaunchTextError>
-    ensures { Gives cursor result (meaning.past_locals (cursor at.entry)) }
-{
-    let mut room = MOST_LOCALS;
-    let mut rest = at;
-    'lines: while begins(rest, "local") {
-        if room == 0 {
-            return Err(rest.refused(LaunchFault::LimitPassed));
-        }
-        let (_, after) = local_line(rest)?;
-        room -= 1;
-        rest = after;
-    }
-    Ok(rest)
-}
-
-/// The cursor past the head at the cursor; a fault where the head has one.
-#[tactic(auto, unfolding(crate::specs::HeadReading::head_at))]
-pub fn past_head(at: Cursor<'_>) -> Result<Cursor<'_>, LaunchTextError>
-    ensures { Gives cursor result (meaning.past_head (cursor at.entry)) }
-{
-    let (_, after) = kernel(at)?;
-    let (_, after) = sizes(after)?;
-    past_locals(after)
-}
-
 /// The head at the cursor, and the cursor past it; a fault where the head has one.
 #[tactic(auto, unfolding(crate::specs::HeadReading::head_at))]
 fn read_head<'a>(alloc: Global, at: Cursor<'a>) -> Result<(Head<'a>, Cursor<'a>), LaunchTextError>
     ensures { Gives (read view.head) result (meaning.head_at (cursor at.entry)) }
 {
     let (kernel, after) = kernel(at)?;
+    let (defines, after) = define_lines(alloc, after)?;
     let (sizes, after) = sizes(after)?;
     let (locals, after) = local_lines(alloc, after)?;
     let head = Head {
         kernel,
+        defines,
         sizes,
         locals,
     };
     Ok((head, after))
+}
+
+/// The cursor past the head at the cursor; a fault where the head has one.
+pub fn past_head<'a>(alloc: Global, at: Cursor<'a>) -> Result<Cursor<'a>, LaunchTextError>
+    ensures { Gives cursor result (meaning.past_head (cursor at.entry)) }
+{
+    let (_, after) = read_head(alloc, at)?;
+    Ok(after)
 }
 
 #[tactic(auto, unfolding(crate::specs::ConditionsReading::head_behind))]
@@ -182,6 +167,7 @@ fn head_behind<'a>(alloc: Global, at: Cursor<'a>) -> Result<Head<'a>, LaunchText
     let Some(rest) = at.rest.strip_prefix(b"conditions 3\n") else {
         return Ok(Head {
             kernel: None,
+            defines: Vec::new(alloc),
             sizes: None,
             locals: Vec::new(alloc),
         });

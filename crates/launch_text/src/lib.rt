@@ -10,6 +10,7 @@
 mod conditions;
 mod contents;
 pub mod cursor;
+mod define;
 pub mod error;
 pub mod given;
 pub mod groups;

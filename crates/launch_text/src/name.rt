@@ -24,7 +24,8 @@ fn is_word_byte(b: u8) -> bool
     is_letter(b) || 48 <= b && b <= 57
 }
 
-fn begins_name(bytes: &[u8]) -> bool
+/// Whether a name stands at the front.
+pub fn begins_name(bytes: &[u8]) -> bool
     ensures { result ≡ meaning.begins_name bytes.now }
 {
     match bytes {

@@ -29,11 +29,12 @@ use Rattle.launch_text.specs.HeadReading.{Head}
 use Rattle.opencl_core.specs.Heads.{LocalCount}
 use Rattle.opencl_core.specs.Kernels.{Written, kernel_of}
 use Rattle.opencl_values.specs.Scope.{Binding}
+use Rattle.opencl_reading.specs.Defines.{joined_behind, tokens_behind}
 use Rattle.opencl_reading.specs.FileNames.{outside_of}
 use Rattle.opencl_reading.specs.FileTypes.{meant_in}
 use Rattle.opencl_reading.specs.HeadRules.{are_locals, as_count}
 use Rattle.opencl_reading.specs.Kinds.{are_same}
-use Rattle.opencl_reading.specs.Kernels.{Fault, OfText, OfFile, OfCore, Unsound, on, when, has_few, has_parameters, is_kept, tested, all_set, with_few, checked, of_size, agreed, counted, sized, with_sizes, same, with_head, of_lexemes, placed, of_expanded, with_given, constants, with_lines, of_tokens, of_lines, read}
+use Rattle.opencl_reading.specs.Kernels.{Fault, OfText, OfFile, OfCore, Unsound, on, when, has_few, has_parameters, is_kept, tested, all_set, with_few, checked, of_size, agreed, counted, sized, with_sizes, same, with_head, of_lexemes, placed, of_expanded, with_given, constants, with_texts, with_defines, with_lines, of_tokens, of_lines, read}
 
 -- a part that answers was followed by what answers
 on-back : {A B F : Type 0} (into : F → Fault) (r : Result A (F × Site)) (next : A → Result B (Fault × Site)) (b : B) → on into r next ≡ Ok b → (a : A) × (next a ≡ Ok b)
@@ -80,7 +81,9 @@ read-kept d head bytes v h =
     let lines = on-back OfText (joined_of bytes) (of_lines ids head) v h in
     let tokens = on-back OfText (tokens_of lines.0) (of_tokens ids head) v lines.1 in
     let given = on-back OfText (joined_of constants) (with_lines ids head tokens.0) v tokens.1 in
-    let gs = on-back OfText (tokens_of given.0) (with_given ids head tokens.0) v given.1 in
+    let cs = on-back OfText (tokens_of given.0) (with_defines ids head tokens.0) v given.1 in
+    let ds = on-back OfText (joined_behind [] head.defines) (with_texts ids head tokens.0 cs.0) v cs.1 in
+    let gs = on-back OfText (tokens_behind cs.0 ds.0) (with_given ids head tokens.0) v ds.1 in
     let out = on-back OfText (placed (preprocessed gs.0 tokens.0)) (of_expanded ids head) v gs.1 in
     let ts = on-back OfText (lexemes_of out.0) (of_lexemes ids head) v out.1 in
     let t = on-back OfFile (chosen_kernel head.kernel ts.0) (with_head ids (outside_of ts.0) head) v ts.1 in

@@ -1,11 +1,16 @@
 -- What the code answers, as the definition has it.
-use Rattle.std.specs.Prelude.{ℕ, ◌≡◌, List, map, string_bytes, Option, Some, None, Result, Ok, Err}
+use Rattle.std.specs.Prelude.{ℕ, ◌≡◌, List, map, string_bytes, Vec, Option, Some, None, Result, Ok, Err}
+use Rattle.std.specs.declared.alloc.Global.{Global}
 use Rattle.semantics.specs.Core.{Site}
 use Rattle.semantics.specs.Launch.{Three}
 use Rattle.core_code.specs.View as core
 use Rattle.kernel_names.specs.View.{names_seen}
 use Rattle.typed_kernels.specs.TypedKernel.{TypedKernel}
 use Rattle.opencl_tokens.specs.Seen as tokens
+use Rattle.opencl_tokens.specs.Faults.{Answered}
+use Rattle.opencl_tokens.specs.Joining as joining
+use Rattle.opencl_tokens.specs.declared.joining.Joined.{Joined}
+use Rattle.opencl_tokens.specs.declared.TokenError.{TokenError}
 use Rattle.opencl_tokens.specs.declared.TokenError.TheVariants as token_errors
 use Rattle.opencl_files.specs.View as files
 use Rattle.opencl_files.specs.declared.errors.FileError.TheVariants as file_errors
@@ -47,6 +52,11 @@ Refuses e answer = Tells kernels.same e answer
 abbrev pub Gives : Result TypedKernel OpenClError → Read → Type 0
 Gives (Ok typed) answer = answer ≡ Ok (written typed)
 Gives (Err error) answer = Refuses error answer
+
+-- joined lines of several texts
+abbrev pub JoinsAll : Result (Vec Joined Global) TokenError → Answered joining.Joined → Type 0
+JoinsAll (Ok js) answer = answer ≡ Ok (map tokens.joined js.items)
+JoinsAll (Err e) answer = tokens.Fails e answer
 
 abbrev pub GivesSizes : Result (List ℕ) OpenClError → Result (Three ℕ) (kernels.Fault × Site) → Type 0
 GivesSizes (Ok sizes) answer = answer ≡ Ok (three sizes)

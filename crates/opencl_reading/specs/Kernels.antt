@@ -1,6 +1,6 @@
 -- What the bytes of a text of OpenCL C say where it is read for some devices, with the head of conditions: a core with its map of names, or
 -- the first fault with its place. What a core has to keep that is run and proved is tested of it.
-use Rattle.std.specs.Prelude.{ℕ, List, ◌++◌, codes, length, map, Bool, true, false, cond, ◌&&◌, nat_le, Option, None, Some, Result, Ok, Err}
+use Rattle.std.specs.Prelude.{ℕ, List, [], ◌++◌, codes, length, map, Bool, true, false, cond, ◌&&◌, nat_le, Option, None, Some, Result, Ok, Err}
 use Rattle.semantics.specs.Word.{Kind}
 use Rattle.semantics.specs.Launch as launch
 use Rattle.semantics.specs.Launch.{Three}
@@ -27,6 +27,7 @@ use Rattle.opencl_core.specs.Kernels.{kernel_of}
 use Rattle.sound_cores.specs.Sound.{is_sound}
 pub use Rattle.sound_cores.specs.Unset.{first_unset}
 use Rattle.opencl_values.specs.Scope.{Binding}
+use Rattle.opencl_reading.specs.Defines.{joined_behind, tokens_behind}
 use Rattle.opencl_reading.specs.FileNames.{outside_of}
 use Rattle.opencl_reading.specs.FileTypes.{meant_in}
 use Rattle.opencl_reading.specs.HeadRules.{are_same_sizes, are_locals, as_count}
@@ -132,8 +133,15 @@ constants =
     codes "#define __OPENCL_VERSION__ 120\n#define __OPENCL_C_VERSION__ 120\n#define __ENDIAN_LITTLE__ 1\n"
     ++ codes "#define CL_VERSION_1_0 100\n#define CL_VERSION_1_1 110\n#define CL_VERSION_1_2 120\n"
 
+-- what the head defines comes behind them
+abbrev pub with_texts : (ids : Kind) → Head → (text given : List Token) → List Joined → Read
+with_texts ids h ts gs lines = on OfText (tokens_behind gs lines) (with_given ids h ts)
+
+abbrev pub with_defines : (ids : Kind) → Head → (text given : List Token) → Read
+with_defines ids h ts gs = on OfText (joined_behind [] h.defines) (with_texts ids h ts gs)
+
 abbrev pub with_lines : (ids : Kind) → Head → List Token → Joined → Read
-with_lines ids h ts lines = on OfText (tokens_of lines) (with_given ids h ts)
+with_lines ids h ts lines = on OfText (tokens_of lines) (with_defines ids h ts)
 
 abbrev pub of_tokens : (ids : Kind) → Head → List Token → Read
 of_tokens ids h ts = on OfText (joined_of constants) (with_lines ids h ts)

@@ -1,4 +1,5 @@
 pub mod Answers
+pub mod Defines
 pub mod FileNames
 pub mod FileTypes
 pub mod HeadRules

@@ -1,9 +1,9 @@
 //! Section: OpenCL text. Promises exactly the core and the map of names of a text of OpenCL C, or its first fault; stands on
 //! `opencl_files`, `opencl_core`, `launch_text` and `sound_cores`.
 //!
-//! The bytes of a text of OpenCL C to a core with its map of names. The head of conditions may name the kernel, and say how large its
-//! work-groups are and how many elements its local pointers have. What kernels of the plain language keep by theorems is tested of what
-//! was written out, so that those who stand above need not know where a core came from.
+//! The bytes of a text of OpenCL C to a core with its map of names. The head of conditions may name the kernel, define macros for the text,
+//! and say how large its work-groups are and how many elements its local pointers have. What kernels of the plain language keep by theorems
+//! is tested of what was written out, so that those who stand above need not know where a core came from.
 #![tactic(auto)]
 
 ghost use Rattle.std.specs.Prelude.{◌≡◌, true, length, map, nat_le, IfOk};
@@ -20,12 +20,14 @@ ghost use Rattle.opencl_reading.specs.Kernels as kernels;
 ghost use Rattle.opencl_reading.specs.Kernels.{read};
 ghost use Rattle.opencl_reading.specs.Answers.{Gives, outside, too_many as too_many_seen};
 
+mod defines;
 pub mod error;
 mod file_types;
 mod heads;
 mod kinds;
 mod names;
 
+use crate::defines::{joined_lines, tokens_behind};
 use crate::error::OpenClError;
 use crate::file_types::push_meant;
 use crate::heads::{agreed, are_locals, counts};
@@ -238,6 +240,38 @@ fn with_given<'a>(
     }
 }
 
+fn with_texts<'a>(
+    alloc: Global,
+    ids: Kind,
+    head: &Head<'_>,
+    found: &'a [Token<'a>],
+    given: &'a [Token<'a>],
+    lines: &'a [Joined],
+) -> Result<Typed, OpenClError>
+    ensures { Gives result (kernels.with_texts (kind_seen ids) (head_seen head.now) (map token_seen found.now) (map token_seen given.now) (map joined_seen lines.now)) }
+{
+    match tokens_behind(alloc, given, lines) {
+        Ok(given) => with_given(alloc, ids, head, found, &given),
+        Err(error) => Err(OpenClError::Text(error)),
+    }
+}
+
+/// The kernel of tokens behind those of the macros that each build has, and behind what the head defines.
+fn with_defines<'a>(
+    alloc: Global,
+    ids: Kind,
+    head: &Head<'_>,
+    found: &'a [Token<'a>],
+    given: &'a [Token<'a>],
+) -> Result<Typed, OpenClError>
+    ensures { Gives result (kernels.with_defines (kind_seen ids) (head_seen head.now) (map token_seen found.now) (map token_seen given.now)) }
+{
+    match joined_lines(alloc, &head.defines) {
+        Ok(lines) => with_texts(alloc, ids, head, found, given, &lines),
+        Err(error) => Err(OpenClError::Text(error)),
+    }
+}
+
 fn with_lines<'a>(
     alloc: Global,
     ids: Kind,
@@ -248,7 +282,7 @@ fn with_lines<'a>(
     ensures { Gives result (kernels.with_lines (kind_seen ids) (head_seen head.now) (map token_seen found.now) (joined_seen lines.now)) }
 {
     match tokens(alloc, lines) {
-        Ok(given) => with_given(alloc, ids, head, found, &given),
+        Ok(given) => with_defines(alloc, ids, head, found, &given),
         Err(error) => Err(OpenClError::Text(error)),
     }
 }

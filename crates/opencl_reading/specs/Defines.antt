@@ -1,0 +1,44 @@
+-- What the head of conditions defines for a text of OpenCL C, as a host gives it to the compiler (OpenCL 1.2, 5.6.4.1).
+use Rattle.std.specs.Prelude.{ℕ, List, [], ◌∷◌, ◌++◌, codes, Bool, true, false, Result, Ok, Err}
+use Rattle.semantics.specs.Core.{Site}
+use Rattle.lines.specs.Identifiers.{all_word_bytes}
+use Rattle.texts.specs.Tokens.{first_site}
+use Rattle.opencl_tokens.specs.Faults.{TextFault, Answered}
+use Rattle.opencl_tokens.specs.Joining.{Joined, joined_of}
+use Rattle.opencl_tokens.specs.Scanning.{tokens_of}
+use Rattle.opencl_tokens.specs.Tokens.{Token}
+
+-- a name alone stands for 1
+abbrev pub ending : (is_alone : Bool) → List ℕ
+ending true = codes " 1\n"
+ending false = codes "\n"
+
+-- the directive that a line stands for
+unfoldable pub directive : (line : List ℕ) → List ℕ
+directive line = (codes "#define " ++ line) ++ ending (all_word_bytes line)
+
+-- faults are told at the beginning of the kernel's text
+abbrev pub at_first : {A : Type 0} → Result A (TextFault × Site) → Result A (TextFault × Site)
+at_first (Ok a) = Ok a
+at_first (Err (fault, site)) = Err (fault, first_site)
+
+abbrev pub then : {A B : Type 0} → Result A (TextFault × Site) → (A → Result B (TextFault × Site)) → Result B (TextFault × Site)
+then (Ok a) go = go a
+then (Err e) go = Err e
+
+-- each directive is a text of its own
+abbrev pub joined_line : (line : List ℕ) → Result Joined (TextFault × Site)
+joined_line line = at_first (joined_of (directive line))
+
+-- behind those that were joined before
+abbrev pub joined_behind : List Joined → (lines : List (List ℕ)) → Answered Joined
+joined_behind done [] = Ok done
+joined_behind done (line ∷ lines) = then (joined_line line) (λ joined. joined_behind (done ++ joined ∷ []) lines)
+
+abbrev pub line_tokens : Joined → Answered Token
+line_tokens joined = at_first (tokens_of joined)
+
+-- the tokens of all of them, behind other tokens
+abbrev pub tokens_behind : List Token → List Joined → Answered Token
+tokens_behind done [] = Ok done
+tokens_behind done (joined ∷ others) = then (line_tokens joined) (λ found. tokens_behind (done ++ found) others)

@@ -30,9 +30,23 @@ header_names =
     ∷ codes "LONG_MAX" ∷ codes "LONG_MIN" ∷ codes "ULONG_MAX" ∷ codes "MAXFLOAT" ∷ codes "HUGE_VALF" ∷ codes "HUGE_VAL"
     ∷ codes "INFINITY" ∷ codes "NAN" ∷ codes "kernel_exec" ∷ codes "cles_khr_int64" ∷ codes "true" ∷ codes "false" ∷ codes "NULL" ∷ []
 
+-- constants that each compiler defines (OpenCL 1.2, 6.12.2 and 6.12.3): a condition may ask whether they are, and none is undefined
+unfoldable pub standard_names : List (List ℕ)
+standard_names =
+    codes "CHAR_BIT" ∷ codes "CHAR_MAX" ∷ codes "CHAR_MIN" ∷ codes "SCHAR_MAX" ∷ codes "SCHAR_MIN" ∷ codes "UCHAR_MAX"
+    ∷ codes "SHRT_MAX" ∷ codes "SHRT_MIN" ∷ codes "USHRT_MAX" ∷ codes "INT_MAX" ∷ codes "INT_MIN" ∷ codes "UINT_MAX"
+    ∷ codes "LONG_MAX" ∷ codes "LONG_MIN" ∷ codes "ULONG_MAX" ∷ codes "FLT_MAX" ∷ codes "FLT_MIN" ∷ codes "FLT_EPSILON"
+    ∷ codes "MAXFLOAT" ∷ codes "HUGE_VALF" ∷ codes "INFINITY" ∷ codes "NAN" ∷ codes "M_E_F" ∷ codes "M_LOG2E_F"
+    ∷ codes "M_LOG10E_F" ∷ codes "M_LN2_F" ∷ codes "M_LN10_F" ∷ codes "M_PI_F" ∷ codes "M_PI_2_F" ∷ codes "M_PI_4_F"
+    ∷ codes "M_1_PI_F" ∷ codes "M_2_PI_F" ∷ codes "M_2_SQRTPI_F" ∷ codes "M_SQRT2_F" ∷ codes "M_SQRT1_2_F" ∷ []
+
+abbrev pub is_standard : (name : List ℕ) → Bool
+is_standard name = is_one_of standard_names name
+
 abbrev pub is_compilers : (name : List ℕ) → Bool
 is_compilers name = is_reserved name || (is_of_family name || is_one_of header_names name)
 
--- whether a name is defined (C99 6.10.1p1), where the text says so
+-- whether a name is defined (C99 6.10.1p1), where the text or the standard says so
 abbrev pub whether_defined : Table → Site → (name : List ℕ) → Result Bool Site
-whether_defined table site name = cond (is_defined name table) (Ok true) (cond (is_compilers name) (Err site) (Ok false))
+whether_defined table site name =
+    cond (is_defined name table || is_standard name) (Ok true) (cond (is_compilers name) (Err site) (Ok false))

@@ -3,6 +3,7 @@ use Rattle.std.specs.Prelude.{ℕ, ◌+◌, ◌-◌, List, [], ◌∷◌, length
 use Rattle.opencl_tokens.specs.Signs.{Sign, LeftParenthesis, RightParenthesis, Comma, HashHash}
 use Rattle.opencl_tokens.specs.Tokens.{TokenKind, Token, Name}
 use Rattle.opencl_macros.specs.Macros.{Macro, is_front, is_mark, is_name}
+use Rattle.opencl_macros.specs.Compilers.{is_standard}
 use Rattle.opencl_macros.specs.Conditions.{behind}
 
 -- `Nothing` is passed over, and `Faulty` is a fault where it is read
@@ -23,7 +24,7 @@ first_name (t ∷ ts) = name_of t.kind
 
 abbrev pub forgotten : Option (List ℕ) → Directive
 forgotten None = Faulty
-forgotten (Some name) = Forgets name
+forgotten (Some name) = cond (is_standard name) Faulty (Forgets name)
 
 abbrev pub has_name : (name : List ℕ) → List Token → Bool
 has_name name [] = false

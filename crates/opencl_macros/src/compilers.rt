@@ -69,6 +69,51 @@ fn is_header_name(name: &str) -> bool
     )
 }
 
+/// Each compiler has a macro of that name.
+#[tactic(auto, unfolding(crate::specs::Compilers::standard_names))]
+pub fn is_standard(name: &str) -> bool
+    ensures { result ≡ meaning.is_standard name.now }
+{
+    matches!(
+        name,
+        "CHAR_BIT"
+            | "CHAR_MAX"
+            | "CHAR_MIN"
+            | "SCHAR_MAX"
+            | "SCHAR_MIN"
+            | "UCHAR_MAX"
+            | "SHRT_MAX"
+            | "SHRT_MIN"
+            | "USHRT_MAX"
+            | "INT_MAX"
+            | "INT_MIN"
+            | "UINT_MAX"
+            | "LONG_MAX"
+            | "LONG_MIN"
+            | "ULONG_MAX"
+            | "FLT_MAX"
+            | "FLT_MIN"
+            | "FLT_EPSILON"
+            | "MAXFLOAT"
+            | "HUGE_VALF"
+            | "INFINITY"
+            | "NAN"
+            | "M_E_F"
+            | "M_LOG2E_F"
+            | "M_LOG10E_F"
+            | "M_LN2_F"
+            | "M_LN10_F"
+            | "M_PI_F"
+            | "M_PI_2_F"
+            | "M_PI_4_F"
+            | "M_1_PI_F"
+            | "M_2_PI_F"
+            | "M_2_SQRTPI_F"
+            | "M_SQRT2_F"
+            | "M_SQRT1_2_F"
+    )
+}
+
 /// A compiler may have a macro of that name.
 pub fn is_compilers(name: &str) -> bool
     ensures { result ≡ meaning.is_compilers name.now }
@@ -76,11 +121,11 @@ pub fn is_compilers(name: &str) -> bool
     is_reserved(name) || is_of_family(name) || is_header_name(name)
 }
 
-/// Whether a name is defined, where the text says so.
+/// Whether a name is defined, where the text or the standard says so.
 pub fn whether_defined(entries: &[Entry<'_>], site: Site, name: &str) -> Result<bool, MacroError>
     ensures { Gives same_flag result (meaning.whether_defined (table entries.now) (site_of site) name.now) }
 {
-    if is_defined(name, entries) {
+    if is_defined(name, entries) || is_standard(name) {
         Ok(true)
     } else if is_compilers(name) {
         Err(MacroError::At(site))

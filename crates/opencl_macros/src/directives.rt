@@ -8,6 +8,7 @@ ghost use Rattle.opencl_macros.specs.Directives as meaning;
 ghost use Rattle.opencl_macros.specs.Seen.{lent, name as name_seen, tokens_seen};
 ghost use Rattle.opencl_macros.specs.SeenDirectives.{directive};
 
+use crate::compilers::is_standard;
 use crate::conditions::behind;
 use crate::macros::{Macro, is_front, is_mark, is_name};
 use crate::{Token, TokenKind};
@@ -51,7 +52,13 @@ fn forgotten<'a>(name: Option<&'a str>) -> Directive<'a>
 {
     match name {
         None => Directive::Faulty,
-        Some(name) => Directive::Forgets(name),
+        Some(name) => {
+            if is_standard(name) {
+                Directive::Faulty
+            } else {
+                Directive::Forgets(name)
+            }
+        }
     }
 }
 

@@ -13,9 +13,11 @@ use Rattle.opencl_values.specs.Wholes.{places}
 use Rattle.opencl_values.specs.Faults.{Checked, NameTwice, TooMany, when, then}
 use Rattle.opencl_core.specs.Names.{is_taken}
 
--- `ids` is the kind of ids and sizes, `sizes` are those of a work-group. Of the names that are visible the first `around` are declared around the innermost block. `drawn` are
--- the values of expressions with effects that were written out. `slots` are the kinds of all slots, of value parameters and then of variables. `elements` counts those of all local arrays. `written` are the core statements of the part that is being written,
--- and `names` is the map of names, whose statements are those of this part and whose variables are those of this block
+-- `ids` is the kind of ids and sizes, `sizes` are those of a work-group. Of the names that are visible the first `around` are declared
+-- around the innermost block. `drawn` are the values of expressions with effects that were written out. `slots` are the kinds of all slots,
+-- of value parameters and then of variables. `elements` counts those of all local arrays. `written` are the core statements of the part
+-- that is being written, and `names` is the map of names, whose statements are those of this part and whose variables are those of this
+-- block
 pub record Room : Type 0 where
   pub ids : Kind
   pub sizes : Three ℕ

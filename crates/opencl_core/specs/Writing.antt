@@ -1,5 +1,5 @@
--- The core statements that statements stand for, written out one behind the other (C99 6.8). Core statements are numbered from 1 in the order
--- in which they stand there: an `If` before its parts, a `Loop` before its body and its update.
+-- The core statements that statements stand for, written out one behind the other (C99 6.8). Core statements are numbered from 1 in the
+-- order in which they stand there: an `If` before its parts, a `Loop` before its body and its update.
 use Rattle.std.specs.Prelude.{ℕ, [], ◌++◌, pos, Bool, true, false, Option, Some, None, Ok}
 use Rattle.semantics.specs.Word as word
 use Rattle.semantics.specs.Core as core
@@ -108,7 +108,8 @@ abbrev pub do_loop : Site → (body : (number : ℕ) → Room → Checked Room) 
 do_loop at body test r =
     then (counted at r) (λ c. then (part (do_body at r.next (body r.next) test) c) (λ b. Ok (put_loop at r.next always b.0 no_part b.1)))
 
--- `break` and `continue` are of the innermost loop around them (6.8.6.2p2, 6.8.6.3p2). One that goes on to a test behind the body is left out
+-- `break` and `continue` are of the innermost loop around them (6.8.6.2p2, 6.8.6.3p2). One that goes on to a test behind the body is left
+-- out
 abbrev pub left : Site → Around → Room → Checked Room
 left at Outside r = refused JumpOutside at
 left at (InLoop loop tests_last) r = break_of at loop r

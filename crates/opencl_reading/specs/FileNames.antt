@@ -1,5 +1,5 @@
--- What names of a file mean in a kernel (C99 6.2.1): functions, variables, types and constants that stand in the file beside it are not read
--- (ours). So their names hide built-in functions and constants of those names, and have no meaning of their own.
+-- What names of a file mean in a kernel (C99 6.2.1): functions, variables, types and constants that stand in the file beside it are not
+-- read (ours). So their names hide built-in functions and constants of those names, and have no meaning of their own.
 use Rattle.std.specs.Prelude.{ℕ, ◌+◌, ◌-◌, List, [], ◌∷◌, ◌++◌, Bool, true, false, cond, ◌||◌, map, nat_eq, nat_lt}
 use Rattle.opencl_tokens.specs.Words as words
 use Rattle.opencl_tokens.specs.Lexemes.{Lexeme, LexemeKind, Name, Word}

@@ -8,8 +8,8 @@ use Rattle.opencl_values.specs.Faults.{Construct, Atomic, Image, Vector, Pointer
 use Rattle.opencl_values.specs.Scope.{or_else}
 
 -- `Integers` take integers of one scalar and give such a one; `Floats` take and give floats; `Scaled` a float and an `int`; `FromBits`
--- makes a float of a `uint`, `Exponent` an `int` of a float; `Tests` of floats give an `int` of 0 or 1; of vectors `Reduces` gives a float of
--- all components, `Spreads` a vector of such
+-- makes a float of a `uint`, `Exponent` an `int` of a float; `Tests` of floats give an `int` of 0 or 1; of vectors `Reduces` gives a float
+-- of all components, `Spreads` a vector of such
 pub data Form : Type 0 where
   IdOf : (function : Function) → Form
   Converts Saturates BitsAs : (to : Scalar) → Form

@@ -1,5 +1,5 @@
--- Pointers: arrays with an offset (C99 6.5.2.1, 6.5.3.2 and 6.5.6). An offset is an `int`, so that none wraps, and an access through a pointer
--- has to lie in the array that it points into.
+-- Pointers: arrays with an offset (C99 6.5.2.1, 6.5.3.2 and 6.5.6). An offset is an `int`, so that none wraps, and an access through a
+-- pointer has to lie in the array that it points into.
 use Rattle.std.specs.Prelude.{ℕ, List, [], ◌∷◌, Bool, true, false, cond, not, ◌||◌, ◌&&◌, Option, Some, None, Ok}
 use Rattle.semantics.specs.Word as word
 use Rattle.semantics.specs.Word.{Operator, Add, Subtract}

@@ -5,10 +5,10 @@ use Rattle.semantics.specs.Core.{Site, Array, Term}
 use Rattle.opencl_terms.specs.Types.{ValueType}
 
 -- a variable has a slot; an array has the lengths of its dimensions, the outermost first, of which a buffer has none. A private array is a
--- row of a local array, which has one for each item of a group: `lengths` are those of the dimensions of the row. A pointer is an array with
--- an offset, an `int` that its slot has; where that is a private array it has its length and its row, too. A number is an enumeration's
--- constant, an `int` of these 32 bits; a type is a name that a `typedef` made. What the file declares beside the kernel is not read: such a
--- name has no meaning of its own, but hides built-in functions and constants
+-- row of a local array, which has one for each item of a group: `lengths` are those of the dimensions of the row. A pointer is an array
+-- with an offset, an `int` that its slot has; where that is a private array it has its length and its row, too. A number is an
+-- enumeration's constant, an `int` of these 32 bits; a type is a name that a `typedef` made. What the file declares beside the kernel is
+-- not read: such a name has no meaning of its own, but hides built-in functions and constants
 pub data Meaning : Type 0 where
   VariableOf : (type : ValueType) (slot : ℕ) (is_constant : Bool) → Meaning
   ArrayOf : (array : Array) (element : ValueType) (lengths : List ℕ) (is_constant : Bool) → Meaning

@@ -1,5 +1,5 @@
--- Which term of the core an expression is, among these names (C99 6.5; OpenCL 1.2, 6.3 and 6.12). The value of one with effects is that which
--- was written out before.
+-- Which term of the core an expression is, among these names (C99 6.5; OpenCL 1.2, 6.3 and 6.12). The value of one with effects is that
+-- which was written out before.
 use Rattle.std.specs.Prelude.{ℕ, pos, List, [], ◌∷◌, ◌++◌, cond, Option, Some, None, Ok}
 use Rattle.semantics.specs.Word.{Kind, Int, Add}
 use Rattle.semantics.specs.Core.{Site, Variable, Literal}

@@ -21,15 +21,6 @@ abbrev pub is_one_of : List (List ℕ) → (name : List ℕ) → Bool
 is_one_of [] name = false
 is_one_of (n ∷ ns) name = bytes_eq name n || is_one_of ns name
 
--- macros of integers (OpenCL 1.2, 6.12.3), of floats (6.12.2), of kernels (6.10), of `long` in the embedded profile (10), and of C99 (7.16,
--- 7.17)
-unfoldable pub header_names : List (List ℕ)
-header_names =
-    codes "CHAR_BIT" ∷ codes "CHAR_MAX" ∷ codes "CHAR_MIN" ∷ codes "SCHAR_MAX" ∷ codes "SCHAR_MIN" ∷ codes "UCHAR_MAX"
-    ∷ codes "SHRT_MAX" ∷ codes "SHRT_MIN" ∷ codes "USHRT_MAX" ∷ codes "INT_MAX" ∷ codes "INT_MIN" ∷ codes "UINT_MAX"
-    ∷ codes "LONG_MAX" ∷ codes "LONG_MIN" ∷ codes "ULONG_MAX" ∷ codes "MAXFLOAT" ∷ codes "HUGE_VALF" ∷ codes "HUGE_VAL"
-    ∷ codes "INFINITY" ∷ codes "NAN" ∷ codes "kernel_exec" ∷ codes "cles_khr_int64" ∷ codes "true" ∷ codes "false" ∷ codes "NULL" ∷ []
-
 -- constants that each compiler defines (OpenCL 1.2, 6.12.2 and 6.12.3): a condition may ask whether they are, and none is undefined
 unfoldable pub standard_names : List (List ℕ)
 standard_names =
@@ -43,8 +34,13 @@ standard_names =
 abbrev pub is_standard : (name : List ℕ) → Bool
 is_standard name = is_one_of standard_names name
 
+-- macros of doubles (OpenCL 1.2, 6.12.2), of kernels (6.10), of `long` in the embedded profile (10), and of C99 (7.16, 7.17)
+unfoldable pub header_names : List (List ℕ)
+header_names =
+    codes "HUGE_VAL" ∷ codes "kernel_exec" ∷ codes "cles_khr_int64" ∷ codes "true" ∷ codes "false" ∷ codes "NULL" ∷ []
+
 abbrev pub is_compilers : (name : List ℕ) → Bool
-is_compilers name = is_reserved name || (is_of_family name || is_one_of header_names name)
+is_compilers name = is_standard name || (is_reserved name || (is_of_family name || is_one_of header_names name))
 
 -- whether a name is defined (C99 6.10.1p1), where the text or the standard says so
 abbrev pub whether_defined : Table → Site → (name : List ℕ) → Result Bool Site

@@ -35,40 +35,6 @@ fn is_of_family(name: &str) -> bool
         || name.starts_with("CLK_")
 }
 
-#[tactic(auto, unfolding(crate::specs::Compilers::header_names))]
-fn is_header_name(name: &str) -> bool
-    ensures { result ≡ meaning.is_one_of meaning.header_names name.now }
-{
-    matches!(
-        name,
-        "CHAR_BIT"
-            | "CHAR_MAX"
-            | "CHAR_MIN"
-            | "SCHAR_MAX"
-            | "SCHAR_MIN"
-            | "UCHAR_MAX"
-            | "SHRT_MAX"
-            | "SHRT_MIN"
-            | "USHRT_MAX"
-            | "INT_MAX"
-            | "INT_MIN"
-            | "UINT_MAX"
-            | "LONG_MAX"
-            | "LONG_MIN"
-            | "ULONG_MAX"
-            | "MAXFLOAT"
-            | "HUGE_VALF"
-            | "HUGE_VAL"
-            | "INFINITY"
-            | "NAN"
-            | "kernel_exec"
-            | "cles_khr_int64"
-            | "true"
-            | "false"
-            | "NULL"
-    )
-}
-
 /// Each compiler has a macro of that name.
 #[tactic(auto, unfolding(crate::specs::Compilers::standard_names))]
 pub fn is_standard(name: &str) -> bool
@@ -114,11 +80,21 @@ pub fn is_standard(name: &str) -> bool
     )
 }
 
-/// A compiler may have a macro of that name.
+#[tactic(auto, unfolding(crate::specs::Compilers::header_names))]
+fn is_header_name(name: &str) -> bool
+    ensures { result ≡ meaning.is_one_of meaning.header_names name.now }
+{
+    matches!(
+        name,
+        "HUGE_VAL" | "kernel_exec" | "cles_khr_int64" | "true" | "false" | "NULL"
+    )
+}
+
+/// A compiler may have a macro of that name, from itself or from the headers that it reads before the text.
 pub fn is_compilers(name: &str) -> bool
     ensures { result ≡ meaning.is_compilers name.now }
 {
-    is_reserved(name) || is_of_family(name) || is_header_name(name)
+    is_standard(name) || is_reserved(name) || is_of_family(name) || is_header_name(name)
 }
 
 /// Whether a name is defined, where the text or the standard says so.

@@ -18,6 +18,7 @@ mod pasting;
 mod questions;
 mod reading;
 
+pub use compilers::is_compilers;
 pub use opencl_tokens::{Site, Token, TokenKind};
 pub use reading::preprocessed;
 use std::alloc::{AllocError, AllocFailed};

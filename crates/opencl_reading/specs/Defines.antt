@@ -1,12 +1,13 @@
 -- What the head of conditions defines for a text of OpenCL C, as a host gives it to the compiler (OpenCL 1.2, 5.6.4.1).
-use Rattle.std.specs.Prelude.{ℕ, List, [], ◌∷◌, ◌++◌, codes, Bool, true, false, Result, Ok, Err}
+use Rattle.std.specs.Prelude.{ℕ, List, [], ◌∷◌, ◌++◌, codes, Bool, true, false, cond, Result, Ok, Err}
 use Rattle.semantics.specs.Core.{Site}
 use Rattle.lines.specs.Identifiers.{all_word_bytes}
 use Rattle.texts.specs.Tokens.{first_site}
-use Rattle.opencl_tokens.specs.Faults.{TextFault, Answered}
+use Rattle.opencl_tokens.specs.Faults.{TextFault, Preprocessor, Answered}
 use Rattle.opencl_tokens.specs.Joining.{Joined, joined_of}
 use Rattle.opencl_tokens.specs.Scanning.{tokens_of}
-use Rattle.opencl_tokens.specs.Tokens.{Token}
+use Rattle.opencl_tokens.specs.Tokens.{TokenKind, Name, Number, Character, Text, Mark, Other, End, Token}
+use Rattle.opencl_macros.specs.Compilers.{is_compilers}
 
 -- a name alone stands for 1
 abbrev pub ending : (is_alone : Bool) → List ℕ
@@ -35,8 +36,27 @@ abbrev pub joined_behind : List Joined → (lines : List (List ℕ)) → Answere
 joined_behind done [] = Ok done
 joined_behind done (line ∷ lines) = then (joined_line line) (λ joined. joined_behind (done ++ joined ∷ []) lines)
 
+abbrev pub is_taken : TokenKind → Bool
+is_taken (Name name) = is_compilers name
+is_taken (Number spelling) = false
+is_taken (Character spelling) = false
+is_taken (Text spelling) = false
+is_taken (Mark sign) = false
+is_taken (Other byte) = false
+is_taken End = false
+
+-- `#`, `define`, and a name of which a compiler may have a macro: its headers are read behind what the host defines, and may define it anew
+abbrev pub defines_taken : List Token → Bool
+defines_taken [] = false
+defines_taken (mark ∷ []) = false
+defines_taken (mark ∷ word ∷ []) = false
+defines_taken (mark ∷ word ∷ name ∷ rest) = is_taken name.kind
+
+abbrev pub free : List Token → Answered Token
+free found = cond (defines_taken found) (Err (Preprocessor, first_site)) (Ok found)
+
 abbrev pub line_tokens : Joined → Answered Token
-line_tokens joined = at_first (tokens_of joined)
+line_tokens joined = then (at_first (tokens_of joined)) free
 
 -- the tokens of all of them, behind other tokens
 abbrev pub tokens_behind : List Token → List Joined → Answered Token

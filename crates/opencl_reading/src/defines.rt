@@ -4,11 +4,12 @@ ghost use Rattle.std.specs.Prelude.{◌≡◌, [], map, IfOk};
 ghost use Rattle.lines.specs.Bytes.{is_letter, is_word_byte};
 ghost use Rattle.lines.specs.Identifiers.{all_word_bytes};
 ghost use Rattle.launch_text.specs.Answers.{bytes};
-ghost use Rattle.opencl_tokens.specs.Seen.{joined as joined_seen, token as token_seen, Joins, Tokens};
+ghost use Rattle.opencl_tokens.specs.Seen.{joined as joined_seen, token as token_seen, token_kind, Joins, Tokens};
 ghost use Rattle.opencl_reading.specs.Answers.{JoinsAll};
 ghost use Rattle.opencl_reading.specs.Defines as rules;
 
-use opencl_tokens::{Joined, Site, Token, TokenError, join, tokens};
+use opencl_macros::is_compilers;
+use opencl_tokens::{Joined, Site, TextFault, Token, TokenError, TokenKind, join, tokens};
 use std::alloc::{AllocError, Global};
 
 const FIRST_SITE: Site = Site { line: 1, column: 1 };
@@ -77,11 +78,43 @@ pub fn joined_lines(alloc: Global, lines: &[&[u8]]) -> Result<Vec<Joined>, Token
     Ok(found)
 }
 
+fn is_taken(kind: TokenKind<'_>) -> bool
+    ensures { result ≡ rules.is_taken (token_kind kind.entry) }
+{
+    match kind {
+        TokenKind::Name(name) => is_compilers(name),
+        _ => false,
+    }
+}
+
+/// A compiler's headers, which it reads behind what the host defines, may define the name of such a directive anew.
+fn defines_taken(found: &[Token<'_>]) -> bool
+    ensures { result ≡ rules.defines_taken (map token_seen found.now) }
+{
+    match found {
+        [_, _, name, ..] => is_taken(name.kind),
+        _ => false,
+    }
+}
+
+fn free(found: Vec<Token<'_>>) -> Result<Vec<Token<'_>>, TokenError>
+    ensures { Tokens result (rules.free (map token_seen found.entry.items)) }
+{
+    if defines_taken(&found) {
+        Err(TokenError::At {
+            fault: TextFault::Preprocessor,
+            site: FIRST_SITE,
+        })
+    } else {
+        Ok(found)
+    }
+}
+
 fn line_tokens<'a>(alloc: Global, joined: &'a Joined) -> Result<Vec<Token<'a>>, TokenError>
     ensures { Tokens result (rules.line_tokens (joined_seen joined.now)) }
 {
     match tokens(alloc, joined) {
-        Ok(found) => Ok(found),
+        Ok(found) => free(found),
         Err(TokenError::At { fault, .. }) => Err(TokenError::At {
             fault,
             site: FIRST_SITE,

@@ -21,7 +21,7 @@ use Rattle.opencl_values.specs.Vectors.{infix_of, converted_to}
 use Rattle.opencl_values.specs.Values.{value_of, part_of, element_of, pointed_to, variable_value}
 use Rattle.opencl_core.specs.Sites.{begin_of}
 use Rattle.opencl_core.specs.Repeating.{is_steady}
-use Rattle.opencl_core.specs.Declaring.{Pointed, pointed_in, offset_of}
+use Rattle.opencl_core.specs.Pointing.{Pointed, pointed_in, offset_of}
 use Rattle.opencl_core.specs.Rooms.{Room, known, write, set, next_slot, made_up}
 use Rattle.opencl_core.specs.Components.{put_picked, mixed_with, store_vector}
 

@@ -10,12 +10,14 @@ use Rattle.opencl_values.specs.Faults.{Checked, then}
 use Rattle.opencl_values.specs.Elements.{Element}
 use Rattle.opencl_values.specs.Wholes.{component, places, words}
 use Rattle.opencl_values.specs.Vectors.{Kept, Mixed, Filled, vector_made, index_at}
+use Rattle.opencl_core.specs.Templates.{Returning, OfKernel, OfFunction}
 use Rattle.opencl_core.specs.Rooms.{Room, write, set, next_slots, all_made_up}
 
 -- what a component's store changes: some slots from one on, or elements of an array
 pub data Changed : Type 0 where
   Slots : (first count : ℕ) → Changed
   Elements : (array : Array) → Changed
+  AnyElements : Changed
 
 abbrev pub is_global : Space → Bool
 is_global Global = true
@@ -27,11 +29,13 @@ is_same_space Local b = not (is_global b)
 
 abbrev pub is_array : Changed → Array → Bool
 is_array (Slots first count) a = false
+is_array AnyElements a = true
 is_array (Elements b) a = is_same_space a.space b.space && nat_eq a.number b.number
 
 abbrev pub is_slot : Changed → (slot : ℕ) → Bool
 is_slot (Slots first count) slot = nat_le first slot && nat_lt slot (first + count)
 is_slot (Elements b) slot = false
+is_slot AnyElements slot = false
 
 -- whether a term depends on what is changed
 abbrev pub heeds : Changed → Term → Bool
@@ -100,13 +104,18 @@ abbrev pub store_all : Spot → Element → Value → (places : List ℕ) → Ro
 store_all c x v [] r = Ok r
 store_all c x v (p ∷ ps) r = then (store_component c x v p r) (store_all c x v ps)
 
-abbrev pub heed_none : Array → Value → (places : List ℕ) → Bool
-heed_none a v [] = true
-heed_none a v (p ∷ ps) = not (heeds (Elements a) (component v p).term) && heed_none a v ps
+abbrev pub heed_none : Changed → Value → (places : List ℕ) → Bool
+heed_none c v [] = true
+heed_none c v (p ∷ ps) = not (heeds c (component v p).term) && heed_none c v ps
+
+-- two parameters of a function of the file may be one array
+abbrev pub changed_by : Returning → Array → Changed
+changed_by OfKernel a = Elements a
+changed_by (OfFunction x) a = AnyElements
 
 abbrev pub store_by_way : Spot → Element → Value → Room → Checked Room
 store_by_way c x v r = then (keep_all c.at v v.type.width r) (λ k. store_all c x k.0 (places v.type.width) k.1)
 
 abbrev pub store_vector : Spot → Element → Value → Room → Checked Room
 store_vector c x v r =
-    cond (heed_none x.array v (places v.type.width)) (store_all c x v (places v.type.width) r) (store_by_way c x v r)
+    cond (heed_none (changed_by r.returns x.array) v (places v.type.width)) (store_all c x v (places v.type.width) r) (store_by_way c x v r)

@@ -8,6 +8,7 @@ use Rattle.opencl_core.specs.declared.components.Spot.{Spot}
 abbrev pub changed : Changed → components.Changed
 changed (changes.Slots first count) = components.Slots first count
 changed (changes.Elements a) = components.Elements (array a)
+changed changes.AnyElements = components.AnyElements
 
 abbrev pub spot : Spot → components.Spot
 spot s = record { at = site s.at; sign_site = site s.sign_site }

@@ -12,14 +12,16 @@ use Rattle.opencl_terms.specs.Types.{Scalar, Boolean, Size, ValueType, Value, ki
 use Rattle.opencl_terms.specs.Conversions.{int, uint, stored}
 use Rattle.opencl_values.specs.Faults.{Checked, WrongType, TooMany, LeftOut, Pointer, PrivateArray, InitialList, LocalScalar, ConstantVariable, refused, then, when, found}
 use Rattle.opencl_values.specs.Scope.{Meaning, ArrayOf, OwnOf, PointerOf, TypeOf}
-use Rattle.opencl_values.specs.Elements.{Part, in_row}
+use Rattle.opencl_values.specs.Elements.{in_row}
 use Rattle.opencl_values.specs.Singles.{as_scalar}
 use Rattle.opencl_values.specs.Wholes.{only, places, words, is_same_type}
 use Rattle.opencl_values.specs.Vectors.{converted_to}
-use Rattle.opencl_values.specs.Values.{value_of, part_of}
+use Rattle.opencl_values.specs.Values.{value_of}
 use Rattle.opencl_values.specs.Names.{type_of_base}
 use Rattle.opencl_core.specs.Sites.{begin_of}
 use Rattle.opencl_core.specs.Constants.{constant_of}
+pub use Rattle.opencl_core.specs.Pointing.{offset_of, is_fixed, row_behind, Pointed, pointed_by, pointed, pointed_in}
+use Rattle.opencl_core.specs.Drawing.{begun, draw_whole}
 use Rattle.opencl_core.specs.Rooms.{Room, known, write, set, next_slot, next_slots, declared, variable_declared, with_slot, with_range, not_ended}
 use Rattle.opencl_core.specs.Components.{set_picked}
 
@@ -127,7 +129,7 @@ declare_set c d e r =
 
 abbrev pub declare_private : Shared → Declarator → Initial → Room → Checked Room
 declare_private c d Absent r = variable_declared d.site d.name c.type c.qualifiers.constant r
-declare_private c d (Given e) r = declare_set c d e r
+declare_private c d (Given e) r = then (draw_whole e r) (declare_set c d e)
 declare_private c d (Listed at is) r = refused (LeftOut InitialList) at
 
 -- A private array is a row of a local array that has one for each item of a group, so no two items have elements in common. Like a local
@@ -212,43 +214,6 @@ declare_own c d ds r =
 abbrev pub declare_variable : Shared → Declarator → List (Option Expression) → Room → Checked Room
 declare_variable c d ds r = cond (nat_eq (length ds) 0) (declare_private c d d.initial r) (declare_own c d ds r)
 
--- A pointer is an array with an offset, which its slot has: from its declaration on it points into that array
-abbrev pub offset_of : Option core.Term → core.Term
-offset_of None = int 0
-offset_of (Some o) = o
-
--- a row that is the same at each place: that of a private array
-abbrev pub is_fixed : core.Term → Bool
-is_fixed (core.Literal k z) = true
-is_fixed (core.Id k f n) = true
-is_fixed (core.Binary op k s l r) = is_fixed l && is_fixed r
-is_fixed (core.Convert k s t) = is_fixed t
-is_fixed t = false
-
--- the row that a pointer points into, where it is not the whole array
-abbrev pub row_behind : Site → (lengths : List ℕ) → Option core.Term → Checked (Option (ℕ × core.Term))
-row_behind at (n ∷ []) None = Ok None
-row_behind at (n ∷ []) (Some t) = cond (is_fixed t) (Ok (Some (n, t))) (refused (LeftOut Pointer) at)
-row_behind at [] None = Ok None
-row_behind at ns t = refused (LeftOut Pointer) at
-
--- what a pointer points into, and its offset
-pub record Pointed : Type 0 where
-  pub array : Array
-  pub element : ValueType
-  pub is_constant : Bool
-  pub row : Option (ℕ × core.Term)
-  pub offset : Option core.Term
-
-abbrev pub pointed_by : Part → Option (ℕ × core.Term) → Pointed
-pointed_by p row = record { array = p.array; element = p.element; is_constant = p.is_constant; row = row; offset = p.offset }
-
-abbrev pub pointed : Site → Part → Checked Pointed
-pointed at p = then (row_behind at p.lengths p.index) (λ row. Ok (pointed_by p row))
-
-abbrev pub pointed_in : Site → Expression → Room → Checked Pointed
-pointed_in at e r = then (part_of (known r) at e) (pointed at)
-
 -- a pointer's type names the space of what it points into (OpenCL 1.2, 6.5)
 abbrev pub is_in_space : core.Space → Option Space → Bool
 is_in_space core.Global (Some Global) = true
@@ -281,7 +246,7 @@ abbrev pub pointer_kept : Shared → Declarator → Pointed → Room → Checked
 pointer_kept c d p r = cond (may_be c p) (pointer_set c d p r) (refused (LeftOut Pointer) d.site)
 
 abbrev pub declare_pointer : Shared → Declarator → Initial → Room → Checked Room
-declare_pointer c d (Given e) r = then (pointed_in d.site e r) (λ p. pointer_kept c d p r)
+declare_pointer c d (Given e) r = then (draw_whole e r) (λ o. then (pointed_in d.site e o) (λ p. pointer_kept c d p o))
 declare_pointer c d i r = refused (LeftOut Pointer) d.site
 
 abbrev pub declare_in_space : Shared → Declarator → Option Space → Room → Checked Room
@@ -302,7 +267,7 @@ declare_one c d stars r =
 
 abbrev pub declare_all : Shared → List Declarator → Room → Checked Room
 declare_all c [] r = Ok r
-declare_all c (d ∷ ds) r = then (declare_one c d d.stars r) (declare_all c ds)
+declare_all c (d ∷ ds) r = then (declare_one c d d.stars (begun r)) (declare_all c ds)
 
 abbrev pub shared : ValueType → Declaration → Shared
 shared t d = record { type = t; qualifiers = d.qualifiers }

@@ -1,16 +1,16 @@
--- Which names declarations may take (ours): the same as in kernels of the narrower language.
+-- Which names declarations may take (ours): as in kernels of the plain language, but that any other function may be hidden.
 use Rattle.std.specs.Prelude.{ℕ, List, [], ◌∷◌, take, Bool, true, false, not, ◌||◌, ◌&&◌, nat_eq, nat_le, bytes_eq, codes}
 
 abbrev pub is_one_of : List (List ℕ) → List ℕ → Bool
 is_one_of [] name = false
 is_one_of (n ∷ ns) name = bytes_eq name n || is_one_of ns name
 
--- names that no declaration may take: the functions and flags that stand in kernels
+-- names that no declaration may take: functions of ids, and what stands in barriers and attributes
 unfoldable pub reserved_names : List (List ℕ)
 reserved_names =
     codes "get_global_id" ∷ codes "get_local_id" ∷ codes "get_group_id" ∷ codes "get_global_size" ∷ codes "get_local_size"
     ∷ codes "get_num_groups" ∷ codes "reqd_work_group_size" ∷ codes "get_work_dim" ∷ codes "CLK_LOCAL_MEM_FENCE"
-    ∷ codes "CLK_GLOBAL_MEM_FENCE" ∷ codes "min" ∷ codes "max" ∷ codes "barrier" ∷ []
+    ∷ codes "CLK_GLOBAL_MEM_FENCE" ∷ codes "barrier" ∷ []
 
 -- names that belong to the compiler, which may have a macro of that name (C99 7.1.3): two underscores, or one and a capital letter
 abbrev pub is_compilers : List ℕ → Bool

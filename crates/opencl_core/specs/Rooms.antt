@@ -8,21 +8,27 @@ use Rattle.semantics.specs.Launch.{LocalArray, Three}
 use Rattle.kernel_names.specs.NameMap as maps
 use Rattle.kernel_names.specs.NameMap.{NameMap, Variable, Sort, Other, Standing, with_variable}
 use Rattle.opencl_terms.specs.Types.{ValueType, kind_of}
+use Rattle.opencl_effects.specs.Effects.{Helper}
+use Rattle.opencl_effects.specs.Marks as marks
 use Rattle.opencl_values.specs.Scope.{Binding, Drawn, Meaning, Names, VariableOf, meaning_of}
 use Rattle.opencl_values.specs.Wholes.{places}
 use Rattle.opencl_values.specs.Faults.{Checked, NameTwice, TooMany, when, then}
 use Rattle.opencl_core.specs.Names.{is_taken}
+use Rattle.opencl_core.specs.Templates.{Template, Returning}
 
 -- `ids` is the kind of ids and sizes, `sizes` are those of a work-group. Of the names that are visible the first `around` are declared
--- around the innermost block. `drawn` are the values of expressions with effects that were written out. `slots` are the kinds of all slots,
--- of value parameters and then of variables. `elements` counts those of all local arrays. `written` are the core statements of the part
--- that is being written, and `names` is the map of names, whose statements are those of this part and whose variables are those of this
--- block
+-- around the innermost block. `drawn` are the values of expressions with effects that were written out. `helpers` and `templates` are the
+-- functions of the file, `returns` is what a `return` does. `slots` are the kinds of all slots, of value parameters and then of variables.
+-- `elements` counts those of all local arrays. `written` are the core statements of the part that is being written, and `names` is the map
+-- of names, whose statements are those of this part and whose variables are those of this block
 pub record Room : Type 0 where
   pub ids : Kind
   pub sizes : Three ℕ
   pub visible : List Binding
   pub drawn : List Drawn
+  pub helpers : List Helper
+  pub templates : List Template
+  pub returns : Returning
   pub around : ℕ
   pub slots : List Kind
   pub arrays : List LocalArray
@@ -159,3 +165,7 @@ made_up at k r = with_range at (codes "_") 1 0 (with_slot k r)
 
 abbrev pub all_made_up : Site → Kind → (count : ℕ) → Room → Room
 all_made_up at k n r = components_added at (codes "_") 1 0 k (places n) r
+
+-- what stands at a site has the value that variables keep, from a slot on
+abbrev pub with_drawn : marks.Sort → Site → ValueType → (slot : ℕ) → Room → Room
+with_drawn sort at t slot r = record r { drawn = r.drawn ++ record { mark = record { sort = sort; site = at }; type = t; slot = slot } ∷ [] }

@@ -13,8 +13,8 @@ use Rattle.opencl_values.specs.Reads.{element_at, place, vectors_on_by}
 use Rattle.opencl_values.specs.Scope.{Meaning, PointerOf}
 use Rattle.opencl_values.specs.Values.{value_of, part_of}
 use Rattle.opencl_values.specs.Wholes.{component, is_same_type, places}
-use Rattle.opencl_core.specs.Components.{heed_none, keep_all}
-use Rattle.opencl_core.specs.Declaring.{Pointed, pointed, offset_of}
+use Rattle.opencl_core.specs.Components.{changed_by, heed_none, keep_all}
+use Rattle.opencl_core.specs.Pointing.{Pointed, pointed, offset_of}
 use Rattle.opencl_core.specs.Rooms.{Room, known, write, set, next_slot, made_up}
 
 -- a pointer with its offset in a variable, since it is evaluated once
@@ -43,7 +43,7 @@ store_by_way at m v r = then (keep_all at v v.type.width r) (λ k. store_compone
 
 abbrev pub store_kept : Site → Array → Value → (Meaning × Room) → Checked Room
 store_kept at a v k =
-    cond (heed_none a v (places v.type.width)) (store_components at k.0 v (places v.type.width) k.1) (store_by_way at k.0 v k.1)
+    cond (heed_none (changed_by k.1.returns a) v (places v.type.width)) (store_components at k.0 v (places v.type.width) k.1) (store_by_way at k.0 v k.1)
 
 abbrev pub store_to : Site → (width : ℕ) → Value → Pointed → Room → Checked Room
 store_to at n v p r =

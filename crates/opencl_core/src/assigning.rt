@@ -74,7 +74,8 @@ fn value_in(alloc: Global, value: Option<&Expr>, room: &Room) -> Result<Value, V
     }
 }
 
-fn combined(
+/// The value that an operator makes of the old and the new one.
+pub fn combined(
     alloc: Global,
     ids: Kind,
     sign: AssignSign,
@@ -93,8 +94,8 @@ fn combined(
     infix_of(alloc, ids, sign, at, old, new)
 }
 
-// What a target gets, in its own type, by what it had.
-fn assigned(
+/// What a target gets, in its own type, by what it had.
+pub fn assigned(
     alloc: Global,
     change: Change,
     to: ValueType,
@@ -728,8 +729,13 @@ fn change_named(
     }
 }
 
-// A change of what stands to its left.
-fn change_at(alloc: Global, change: Change, to: &Expr, room: &mut Room) -> Result<(), ValueError>
+/// A change of what stands to its left.
+pub fn change_at(
+    alloc: Global,
+    change: Change,
+    to: &Expr,
+    room: &mut Room,
+) -> Result<(), ValueError>
     ensures { Gives (λ _. seen.room room.new) result (rules.change (seen.change change.entry) (expression to.now) (seen.room room.old)) }
 {
     match to {
@@ -751,7 +757,8 @@ fn change_at(alloc: Global, change: Change, to: &Expr, room: &mut Room) -> Resul
     }
 }
 
-fn step_sign(sign: StepSign) -> AssignSign
+/// The sign of the assignment that a step is.
+pub fn step_sign(sign: StepSign) -> AssignSign
     ensures { assign_sign result ≡ rules.step_sign (step_sign_seen sign) }
 {
     match sign {

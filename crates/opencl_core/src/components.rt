@@ -16,6 +16,7 @@ ghost use Rattle.opencl_core.specs.ComponentsView.{changed as changed_seen, spot
 ghost use Rattle.opencl_core.specs.View as seen;
 
 use crate::rooms::Room;
+use crate::templates::Returning;
 use core_code::tree::{Array, Site, Space, Statement, Term};
 use core_pieces::copies::copy_of;
 use kernel_names::Sort;
@@ -28,11 +29,12 @@ use opencl_values::wholes::{Value, component, places, words};
 use std::alloc::{AllocError, Global};
 use words::Kind;
 
-/// What the store of a component changes: some slots from one on, or elements of an array.
+/// What the store of a component changes: some slots from one on, or elements of an array, or of any.
 #[derive(Clone, Copy)]
 pub enum Changed {
     Slots { first: u32, count: u32 },
     Elements(Array),
+    AnyElements,
 }
 
 fn is_global(space: Space) -> bool
@@ -44,7 +46,8 @@ fn is_global(space: Space) -> bool
     }
 }
 
-fn is_same_space(left: Space, right: Space) -> bool
+/// Whether two spaces are the same.
+pub fn is_same_space(left: Space, right: Space) -> bool
     ensures { result ≡ rules.is_same_space (space_seen left) (space_seen right) }
 {
     match left {
@@ -58,6 +61,7 @@ fn is_array(changed: Changed, array: Array) -> bool
 {
     match changed {
         Changed::Slots { .. } => false,
+        Changed::AnyElements => true,
         Changed::Elements(other) => {
             is_same_space(array.space, other.space) && array.number == other.number
         }
@@ -69,7 +73,7 @@ fn is_slot(changed: Changed, slot: u32) -> bool
 {
     match changed {
         Changed::Slots { first, count } => first <= slot && slot - first < count,
-        Changed::Elements(_) => false,
+        Changed::Elements(_) | Changed::AnyElements => false,
     }
 }
 
@@ -352,28 +356,38 @@ fn store_all(
     Ok(())
 }
 
-fn heeds_array(alloc: Global, array: Array, of: &Value, place: u32) -> Result<bool, AllocError>
-    ensures { IfOk result (λ b. b ≡ rules.heeds (rules.Elements (array_seen array)) (wholes.component (value_seen of.now) place).term) }
+fn heeds_at(alloc: Global, changed: Changed, of: &Value, place: u32) -> Result<bool, AllocError>
+    ensures { IfOk result (λ b. b ≡ rules.heeds (changed_seen changed) (wholes.component (value_seen of.now) place).term) }
 {
     let one = component(alloc, of, place)?;
-    Ok(heeds(Changed::Elements(array), &one.term))
+    Ok(heeds(changed, &one.term))
 }
 
 /// Whether no component depends on an array.
 pub fn heed_none(
     alloc: Global,
-    array: Array,
+    changed: Changed,
     of: &Value,
     places: &[u32],
 ) -> Result<bool, AllocError>
-    ensures { IfOk result (λ b. b ≡ rules.heed_none (array_seen array) (value_seen of.now) places.now) }
+    ensures { IfOk result (λ b. b ≡ rules.heed_none (changed_seen changed) (value_seen of.now) places.now) }
 {
     for place in places {
-        if heeds_array(alloc, array, of, *place)? {
+        if heeds_at(alloc, changed, of, *place)? {
             return Ok(false);
         }
     }
     Ok(true)
+}
+
+/// What a store to an array changes: two parameters of a function of the file may be one array.
+pub fn changed_by(returns: Returning, array: Array) -> Changed
+    ensures { changed_seen result ≡ rules.changed_by (seen.returning returns) (array_seen array) }
+{
+    match returns {
+        Returning::OfKernel => Changed::Elements(array),
+        Returning::OfFunction(_) => Changed::AnyElements,
+    }
 }
 
 fn store_by_way(
@@ -401,7 +415,8 @@ pub fn store_vector(
     ensures { Gives (λ _. seen.room room.new) result (rules.store_vector (spot_seen spot) (element_seen element.now) (value_seen of.now) (seen.room room.old)) }
 {
     let all = places(of.of.width);
-    if heed_none(alloc, element.array, of, all)? {
+    let changed = changed_by(room.returns, element.array);
+    if heed_none(alloc, changed, of, all)? {
         store_all(alloc, spot, element, of, all, room)
     } else {
         store_by_way(alloc, spot, element, of, room)

@@ -10,6 +10,7 @@ ghost use Rattle.opencl_core.specs.View as seen;
 
 use crate::components::set_picked;
 use crate::constants::constant_of;
+use crate::drawing::{begin, draw_whole};
 use crate::locals::{LocalShape, MOST_ELEMENTS};
 use crate::owning::declare_own;
 use crate::pointing::declare_pointer;
@@ -218,7 +219,10 @@ fn declare_private<'a>(
             shared.of,
             shared.qualifiers.constant,
         ),
-        Initial::Given(value) => declare_set(alloc, shared, declarator, value, room),
+        Initial::Given(value) => {
+            draw_whole(alloc, value, room)?;
+            declare_set(alloc, shared, declarator, value, room)
+        }
         Initial::Listed { site, .. } => refused(Fault::LeftOut(Construct::InitialList), *site),
     }
 }
@@ -296,6 +300,7 @@ fn declare_all<'a>(
     ensures { Gives (λ _. seen.room room.new) result (rules.declare_all (seen.shared shared) (map declarator_seen declarators.now) (seen.room room.old)) }
 {
     for declarator in declarators {
+        begin(alloc, room);
         declare_one(alloc, shared, declarator, room)?;
     }
     Ok(())

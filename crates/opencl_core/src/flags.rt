@@ -122,7 +122,8 @@ fn barrier(at: Site, arguments: &[Expr], room: &mut Room) -> Result<(), ValueErr
     Ok(())
 }
 
-fn is_hidden(room: &Room, name: &str) -> bool
+/// Whether a name is visible, so that it is no built-in one.
+pub fn is_hidden(room: &Room, name: &str) -> bool
     ensures { result ≡ rules.is_hidden (seen.room room.now) name.now }
 {
     meaning_of(&room.visible, name).is_some()

@@ -80,8 +80,8 @@ impl<'a> Room<'a> {
     }
 }
 
-// The number of the next buffer.
-fn next_buffer(at: Site, room: &Room) -> Result<u32, ValueError>
+/// The number of the next buffer.
+pub fn next_buffer(at: Site, room: &Room) -> Result<u32, ValueError>
     ensures { Gives (λ n. n) result (rules.next_buffer (site_seen at) (seen.room room.now)) }
 {
     if room.has_place() {
@@ -375,8 +375,8 @@ fn declare_named<'a>(
     }
 }
 
-// The name and the type of a parameter.
-fn name_and_type<'a>(parameter: &'a Parameter, room: &Room) -> Result<Named<'a>, ValueError>
+/// The name and the type of a parameter.
+pub fn name_and_type<'a>(parameter: &'a Parameter, room: &Room) -> Result<Named<'a>, ValueError>
     ensures { Gives seen.named result (rules.named_by (parameter_of parameter.now) (seen.room room.now)) }
 {
     let site = parameter.site;

@@ -12,9 +12,13 @@ ghost use Rattle.opencl_core.specs.View as seen;
 
 use crate::assigning::is_void;
 use crate::heads::{LocalCount, declare_parameters};
+use crate::helpers::{Surroundings, helpers_of, templates_of};
+use crate::moving::move_parameters;
 use crate::names::may_name_kernel;
+use crate::outsides::empty_room;
 use crate::places::placed_all;
 use crate::rooms::{Room, end_all};
+use crate::templates::Template;
 use crate::writing::{Around, write_all};
 use core_code::tree::{Core, Statement};
 use kernel_names::NameMap;
@@ -32,28 +36,21 @@ pub struct Written {
     pub names: NameMap,
 }
 
-fn empty_room<'a>(alloc: Global, ids: Kind, sizes: [u32; 3], outside: Vec<Binding<'a>>) -> Room<'a>
-    ensures { seen.room result ≡ rules.empty_room (kind_seen ids) (seen.three sizes) (bindings outside.entry.items) }
+// A room in which the functions in front of the kernel are known.
+fn room_with<'a>(
+    alloc: Global,
+    ids: Kind,
+    sizes: [u32; 3],
+    outside: Vec<Binding<'a>>,
+    templates: &'a [Template],
+) -> Result<Room<'a>, AllocError>
+    ensures { IfOk result (λ r. seen.room r ≡ rules.room_with (kind_seen ids) (seen.three sizes) (bindings outside.entry.items) (map seen.template templates.now)) }
 {
-    Room {
-        ids,
-        sizes,
-        around: outside.len(),
-        visible: outside,
-        drawn: Vec::new(alloc),
-        slots: Vec::new(alloc),
-        arrays: Vec::new(alloc),
-        elements: 0,
-        buffers: Vec::new(alloc),
-        next: 1,
-        written: Vec::new(alloc),
-        names: NameMap {
-            parameters: Vec::new(alloc),
-            variables: Vec::new(alloc),
-            arrays: Vec::new(alloc),
-            statements: Vec::new(alloc),
-        },
-    }
+    let helpers = helpers_of(alloc, templates)?;
+    let mut room = empty_room(alloc, ids, sizes, outside);
+    room.helpers = helpers;
+    room.templates = templates;
+    Ok(room)
 }
 
 fn head_room<'a>(
@@ -61,9 +58,10 @@ fn head_room<'a>(
     ids: Kind,
     sizes: [u32; 3],
     outside: Vec<Binding<'a>>,
+    templates: &'a [Template],
     head: &Header,
 ) -> Result<Room<'a>, ValueError>
-    ensures { Gives seen.room result (rules.head_room (kind_seen ids) (seen.three sizes) (bindings outside.entry.items) (header_seen head.now)) }
+    ensures { Gives seen.room result (rules.head_room (kind_seen ids) (seen.three sizes) (bindings outside.entry.items) (map seen.template templates.now) (header_seen head.now)) }
 {
     if !may_name_kernel(head.name.as_str()) {
         return refused(Fault::NameTwice, head.site);
@@ -71,7 +69,7 @@ fn head_room<'a>(
     if !is_void(&head.base, &head.stars) {
         return refused(Fault::WrongType, head.site);
     }
-    Ok(empty_room(alloc, ids, sizes, outside))
+    Ok(room_with(alloc, ids, sizes, outside, templates)?)
 }
 
 // The kinds behind the first ones.
@@ -149,23 +147,56 @@ fn finished(alloc: Global, given: Given, room: Room) -> Result<Written, AllocErr
     Ok(Written { core, names })
 }
 
-/// The core and the map of names of a kernel of these work-group sizes, whose ids and sizes have a kind, where its file declares the names
-/// outside of it; or its first broken rule: of its name and its return type, of its parameters, then of its statements.
-#[tactic(auto, unfolding(crate::specs::Kernels::kernel_of))]
-pub fn kernel_of<'a>(
+fn kernel_with<'a>(
     alloc: Global,
     ids: Kind,
     outside: Vec<Binding<'a>>,
+    templates: &'a [Template],
     sizes: [u32; 3],
     head: &'a Header,
     counts: &[LocalCount],
     body: &'a [Stmt],
 ) -> Result<Written, ValueError>
-    ensures { Gives seen.written result (rules.kernel_of (kind_seen ids) (bindings outside.entry.items) (seen.three sizes) (header_seen head.now) (map seen.local_count counts.now) (statements_seen body.now)) }
+    ensures { Gives seen.written result (rules.kernel_with (kind_seen ids) (bindings outside.entry.items) (map seen.template templates.now) (seen.three sizes) (header_seen head.now) (map seen.local_count counts.now) (statements_seen body.now)) }
 {
-    let mut room = head_room(alloc, ids, sizes, outside, head)?;
+    let mut room = head_room(alloc, ids, sizes, outside, templates, head)?;
     declare_parameters(alloc, counts, &head.parameters, &mut room)?;
     let given = given_by(alloc, sizes, &room)?;
+    move_parameters(alloc, body, &head.parameters, &mut room)?;
     write_all(alloc, Around::Outside, body, &mut room)?;
     Ok(finished(alloc, given, room)?)
+}
+
+/// The core and the map of names of a kernel of these work-group sizes, whose ids and sizes have a kind, where its file declares the names
+/// outside of it, and these functions stand in front of it; or its first broken rule: of its name and its return type, of its parameters, then
+/// of its statements.
+#[tactic(auto, unfolding(crate::specs::Kernels::kernel_of))]
+pub fn kernel_of<'a>(
+    alloc: Global,
+    ids: Kind,
+    outside: Vec<Binding<'a>>,
+    functions: &'a [(Header, Vec<Stmt>)],
+    sizes: [u32; 3],
+    head: &'a Header,
+    counts: &[LocalCount],
+    body: &'a [Stmt],
+) -> Result<Written, ValueError>
+    ensures { Gives seen.written result (rules.kernel_of (kind_seen ids) (bindings outside.entry.items) (map seen.function functions.now) (seen.three sizes) (header_seen head.now) (map seen.local_count counts.now) (statements_seen body.now)) }
+{
+    let within = Surroundings {
+        ids,
+        sizes,
+        outside: outside.as_slice(),
+    };
+    let templates = templates_of(alloc, within, functions)?;
+    kernel_with(
+        alloc,
+        ids,
+        outside,
+        templates.as_slice(),
+        sizes,
+        head,
+        counts,
+        body,
+    )
 }

@@ -6,19 +6,27 @@
 #![tactic(auto)]
 
 pub mod assigning;
+pub mod calling;
 pub mod components;
 pub mod constants;
 pub mod declaring;
+pub mod drawing;
 pub mod flags;
 pub mod heads;
+pub mod helpers;
 pub mod kernels;
 pub mod locals;
+pub mod moving;
 mod names;
+mod outsides;
 pub mod owning;
+pub mod parts;
 mod places;
 pub mod pointing;
 pub mod rooms;
 mod sites;
 mod steady;
+pub mod tails;
+pub mod templates;
 pub mod vector_stores;
-mod writing;
+pub mod writing;

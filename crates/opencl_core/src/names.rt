@@ -19,8 +19,6 @@ fn is_reserved(name: &str) -> bool
             | "get_work_dim"
             | "CLK_LOCAL_MEM_FENCE"
             | "CLK_GLOBAL_MEM_FENCE"
-            | "min"
-            | "max"
             | "barrier"
     )
 }

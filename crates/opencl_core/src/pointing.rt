@@ -10,6 +10,7 @@ ghost use Rattle.opencl_core.specs.Declaring as rules;
 ghost use Rattle.opencl_core.specs.View as seen;
 
 use crate::declaring::Shared;
+use crate::drawing::draw_whole;
 use crate::rooms::Room;
 use core_code::tree::{Array, Site, Space as CoreSpace, Term};
 use core_pieces::pieces::literal;
@@ -137,7 +138,8 @@ fn may_be(shared: Shared, of: &Pointed) -> bool
     is_same_type(of.element, shared.of) && may_point(shared.qualifiers.space, of.array, &of.row)
 }
 
-fn pointer_named<'a>(
+/// Declares a pointer of a slot, which is set.
+pub fn pointer_named<'a>(
     alloc: Global,
     at: Site,
     name: &'a str,
@@ -193,6 +195,7 @@ pub fn declare_pointer<'a>(
     let Initial::Given(value) = &declarator.initial else {
         return refused(Fault::LeftOut(Construct::Pointer), at);
     };
+    draw_whole(alloc, value, room)?;
     let pointed = pointed_in(alloc, at, value, room)?;
     if may_be(shared, &pointed) {
         pointer_set(alloc, shared, declarator, pointed, room)

@@ -4,6 +4,7 @@ ghost use Rattle.std.specs.Prelude.{◌≡◌, OnOk, IfOk, map, drop, is_some, �
 ghost use Rattle.core_code.specs.View.{site, statement as statement_seen, term};
 ghost use Rattle.kernel_names.specs.View.{sort as sort_seen, standing as standing_seen, variable as variable_seen};
 ghost use Rattle.words.specs.View.{kind as kind_seen};
+ghost use Rattle.opencl_effects.specs.View.{sort as mark_sort};
 ghost use Rattle.opencl_terms.specs.Answers.{value_type};
 ghost use Rattle.opencl_values.specs.Scope as scope;
 ghost use Rattle.opencl_values.specs.View.{Gives, bindings, meaning as meaning_seen, names as known_seen};
@@ -12,8 +13,11 @@ ghost use Rattle.semantics.specs.Word as word;
 ghost use Rattle.opencl_core.specs.View as seen;
 
 use crate::names::is_taken;
+use crate::templates::{Returning, Template};
 use core_code::tree::{LocalArray, Site, Statement, Term};
 use kernel_names::{NameMap, Sort, Standing, Variable};
+use opencl_effects::effects::Helper;
+use opencl_effects::marks::{Mark, Sort as MarkSort};
 use opencl_terms::scalars::ValueType;
 use opencl_values::error::{Fault, ValueError, refused};
 use opencl_values::scope::{Binding, Drawn, Meaning, Names, meaning_of};
@@ -22,23 +26,29 @@ use std::alloc::{AllocError, Global};
 use std::mem::replace;
 use words::Kind;
 
-const MOST_STATEMENTS: u32 = 4_096;
+/// So many core statements are written at most.
+pub const MOST_STATEMENTS: u32 = 4_096;
 
-const MOST_SLOTS: usize = 512;
+/// So many slots there are at most.
+pub const MOST_SLOTS: usize = 512;
 
 /// The last number of a name whose block has not ended yet.
 const NOT_ENDED: u32 = 4_097;
 
-/// The kind of ids and sizes; the sizes of a work-group; the visible names, of which the first `around` are declared around the innermost block; the values of
-/// expressions with effects that were written out; the kinds of all slots, of value parameters and then of variables; the local arrays, with the count of their elements; the kinds of the buffers; the number of the
-/// next core statement; the statements of the part that is being written; the map of names, with the statements of this part and the variables
-/// of this block.
+/// The kind of ids and sizes; the sizes of a work-group; the visible names, of which the first `around` are declared around the innermost block;
+/// the values of expressions with effects that were written out; the functions of the file, and what a `return` does; the kinds of all slots, of
+/// value parameters and then of variables; the local arrays, with the count of their elements; the kinds of the buffers; the number of the next
+/// core statement; the statements of the part that is being written; the map of names, with the statements of this part and the variables of
+/// this block.
 #[derive(Drop)]
 pub struct Room<'a> {
     pub ids: Kind,
     pub sizes: [u32; 3],
     pub visible: Vec<Binding<'a>>,
     pub drawn: Vec<Drawn>,
+    pub helpers: Vec<Helper<'a>>,
+    pub templates: &'a [Template],
+    pub returns: Returning,
     pub around: usize,
     pub slots: Vec<Kind>,
     pub arrays: Vec<LocalArray>,
@@ -340,6 +350,24 @@ impl<'a> Room<'a> {
         let first = self.next;
         self.slots.push(Kind::Int)?;
         self.push_range(alloc, at, name, first, NOT_ENDED)
+    }
+
+    /// What stands at a site has the value that variables keep, from a slot on.
+    pub fn push_drawn(
+        &mut self,
+        sort: MarkSort,
+        at: Site,
+        of: ValueType,
+        slot: u32,
+    ) -> Result<(), AllocError>
+        ensures { OnOk result (seen.room self.new ≡ rules.with_drawn (mark_sort sort) (site at) (value_type of) slot (seen.room self.old)) }
+    {
+        self.drawn.push(Drawn {
+            mark: Mark { sort, site: at },
+            of,
+            slot,
+        })?;
+        Ok(())
     }
 
     /// Writes a value into a slot.

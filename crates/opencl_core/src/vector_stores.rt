@@ -8,7 +8,7 @@ ghost use Rattle.opencl_values.specs.View.{Gives, meaning as meaning_seen, value
 ghost use Rattle.opencl_core.specs.VectorStores as rules;
 ghost use Rattle.opencl_core.specs.View as seen;
 
-use crate::components::{heed_none, keep_all, stored_component};
+use crate::components::{changed_by, heed_none, keep_all, stored_component};
 use crate::pointing::{Pointed, offset_of, point_into};
 use crate::rooms::Room;
 use core_code::tree::{Array, Site, Statement};
@@ -129,7 +129,8 @@ fn store_kept(
     ensures { Gives (λ _. seen.room room.new) result (rules.store_kept (site_seen at) (array_seen array) (value_seen of.now) (meaning_seen pointer.now, seen.room room.old)) }
 {
     let all = places(of.of.width);
-    if heed_none(alloc, array, of, all)? {
+    let changed = changed_by(room.returns, array);
+    if heed_none(alloc, changed, of, all)? {
         store_components(alloc, at, pointer, of, all, room)
     } else {
         store_by_way(alloc, at, pointer, of, room)

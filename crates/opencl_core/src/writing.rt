@@ -1,27 +1,31 @@
 //! Statements, written out.
 
-ghost use Rattle.std.specs.Prelude.{◌≡◌, ◌++◌, IfOk, map, Ok, None, true, false};
+ghost use Rattle.std.specs.Prelude.{◌≡◌, Ok, true, false};
 ghost use Rattle.core_code.specs.View.{site as site_seen, term};
-ghost use Rattle.kernel_names.specs.View.{standing as standing_seen};
-ghost use Rattle.opencl_tree.specs.View.{expression, first as first_seen, maybe, statement as statement_seen, statements as statements_seen};
+ghost use Rattle.opencl_tree.specs.View.{expression, expressions, first as first_seen, maybe, statement as statement_seen, statements as statements_seen};
 ghost use Rattle.opencl_values.specs.View.{Gives};
+ghost use Rattle.opencl_core.specs.Parts as parts;
 ghost use Rattle.opencl_core.specs.Writing as rules;
 ghost use Rattle.opencl_core.specs.View as seen;
 
-use crate::assigning::effect;
+use crate::components::set_picked;
 use crate::declaring::{write_declaration, write_typedef};
+use crate::drawing::{begin, counted_test, draw_whole, evaluate, test_of};
 use crate::flags::called;
-use crate::places::{if_of, loop_of};
+use crate::parts::{are_assignments, both_standings, no_part, put_if};
+use crate::places::loop_of;
 use crate::rooms::{Part, Room};
 use crate::sites::begin_of;
+use crate::templates::{Returned, Returning};
 use core_code::tree::{Site, Statement, Term};
-use kernel_names::{Sort, Standing};
+use kernel_names::Sort;
+use opencl_effects::effects::{has_effect, is_helper};
 use opencl_tree::tree::{Expr, First, Stmt};
 use opencl_values::error::{Construct, Fault, ValueError, refused};
-use opencl_values::singles::as_test;
 use opencl_values::values::value_of;
-use opencl_values::wholes::only;
-use std::alloc::{AllocError, Global};
+use opencl_values::vectors::converted_to;
+use opencl_values::wholes::places;
+use std::alloc::Global;
 use words::Kind;
 
 /// The surroundings of a statement: outside all loops, or in loops, the innermost of which has the number, and may test behind its body.
@@ -29,14 +33,6 @@ use words::Kind;
 pub enum Around {
     Outside,
     InLoop { number: u32, tests_last: bool },
-}
-
-fn test_of(alloc: Global, of: &Expr, room: &Room) -> Result<Term, ValueError>
-    ensures { Gives term result (rules.test_of (expression of.now) (seen.room room.now)) }
-{
-    let value = value_of(alloc, room.known(), of)?;
-    let single = only(begin_of(of), value)?;
-    Ok(as_test(alloc, room.ids, begin_of(of), single)?)
 }
 
 fn always() -> Term
@@ -57,12 +53,19 @@ fn maybe_test(alloc: Global, of: &Option<Expr>, room: &Room) -> Result<Term, Val
     }
 }
 
+// The update of a loop, of which nothing else is written.
 fn maybe_effect(alloc: Global, of: &Option<Expr>, room: &mut Room) -> Result<(), ValueError>
     ensures { Gives (λ _. seen.room room.new) result (rules.maybe_effect (maybe of.now) (seen.room room.old)) }
 {
     match of {
         None => Ok(()),
-        Some(of) => effect(alloc, of, room),
+        Some(of) => {
+            evaluate(alloc, of, room)?;
+            if !are_assignments(room.written.as_slice()) {
+                return refused(Fault::LeftOut(Construct::Effect), begin_of(of));
+            }
+            Ok(())
+        }
     }
 }
 
@@ -72,35 +75,8 @@ fn first_written<'a>(alloc: Global, first: &'a First, room: &mut Room<'a>) -> Re
     match first {
         First::Absent => Ok(()),
         First::Declares(declaration) => write_declaration(alloc, declaration, room),
-        First::Evaluates(of) => effect(alloc, of, room),
+        First::Evaluates(of) => evaluate(alloc, of, room),
     }
-}
-
-// The standings of two parts, one behind the other.
-#[tactic(auto, using(crate::proofs::Trees::parts))]
-fn both_standings(first: Vec<Standing>, second: &[Standing]) -> Result<Vec<Standing>, AllocError>
-    ensures { IfOk result (λ v. map standing_seen v.items ≡ map standing_seen first.items ++ map standing_seen second.now) }
-{
-    let mut both = first;
-    both.extend_from_slice(second)?;
-    Ok(both)
-}
-
-// Puts an `if`, of which both parts are written.
-fn put_if(
-    at: Site,
-    number: u32,
-    test: Term,
-    taken: Part,
-    skipped: Part,
-    room: &mut Room,
-) -> Result<(), ValueError>
-    ensures { Gives (λ _. seen.room room.new) result (Ok (rules.put_if (site_seen at) number (term test) (seen.part taken) (seen.part skipped) (seen.room room.old))) }
-{
-    let inside = both_standings(taken.standings, skipped.standings.as_slice())?;
-    let statement = if_of(number, test, taken.statements, skipped.statements);
-    room.put(statement, at, Sort::Other, inside.as_slice())?;
-    Ok(())
 }
 
 // Puts a loop, of which the body and the update are written.
@@ -161,18 +137,85 @@ fn goes_on(at: Site, around: Around, room: &mut Room) -> Result<(), ValueError>
     }
 }
 
-fn returned(at: Site, value: &Option<Expr>, room: &mut Room) -> Result<(), ValueError>
-    ensures { Gives (λ _. seen.room room.new) result (rules.returned (site_seen at) (maybe value.now) (seen.room room.old)) }
+fn put_return(at: Site, room: &mut Room) -> Result<(), ValueError>
+    ensures { Gives (λ _. seen.room room.new) result (rules.put_return (site_seen at) (seen.room room.old)) }
 {
-    if value.is_some() {
-        return refused(Fault::WrongType, at);
-    }
     let number = room.count(at)?;
     room.put(Statement::Return { number }, at, Sort::Other, &[])?;
     Ok(())
 }
 
-#[tactic(auto, using(crate::proofs::Trees::calls))]
+// The value that a function returns goes into its slots.
+fn return_value(
+    alloc: Global,
+    at: Site,
+    to: Returned,
+    value: &Expr,
+    room: &mut Room,
+) -> Result<(), ValueError>
+    ensures { Gives (λ _. seen.room room.new) result (rules.return_value (site_seen at) (seen.returned to) (expression value.now) (seen.room room.old)) }
+{
+    draw_whole(alloc, value, room)?;
+    let value = value_of(alloc, room.known(), value)?;
+    let value = converted_to(alloc, room.ids, at, to.of, value)?;
+    set_picked(alloc, at, to.slot, &value, places(to.of.width), room)
+}
+
+/// What a `return` does.
+pub fn returned(
+    alloc: Global,
+    at: Site,
+    value: &Option<Expr>,
+    room: &mut Room,
+) -> Result<(), ValueError>
+    ensures { Gives (λ _. seen.room room.new) result (rules.returned (site_seen at) (maybe value.now) (seen.room room.old)) }
+{
+    match (room.returns, value) {
+        (Returning::OfKernel, None) => put_return(at, room),
+        (Returning::OfFunction(None), None) => Ok(()),
+        (Returning::OfFunction(Some(to)), Some(value)) => {
+            return_value(alloc, at, to, value, room)
+        }
+        (Returning::OfKernel | Returning::OfFunction(None), Some(_))
+        | (Returning::OfFunction(Some(_)), None) => refused(Fault::WrongType, at),
+    }
+}
+
+// A call of a built-in function, whose arguments are drawn.
+#[tactic(auto, unfolding(crate::specs::Writing::called_behind))]
+fn called_behind(
+    alloc: Global,
+    of: &Expr,
+    at: Site,
+    name: &str,
+    arguments: &[Expr],
+    room: &mut Room,
+) -> Result<(), ValueError>
+    ensures { Gives (λ _. seen.room room.new) result (rules.called_behind (expression of.now) (site_seen at) name.now (expressions arguments.now) (seen.room room.old)) }
+{
+    draw_whole(alloc, of, room)?;
+    called(alloc, at, name, arguments, room)
+}
+
+// A call of a function, whose value is not used.
+#[tactic(auto, unfolding(crate::specs::Writing::call_evaluated))]
+fn call_evaluated(
+    alloc: Global,
+    of: &Expr,
+    at: Site,
+    name: &str,
+    arguments: &[Expr],
+    room: &mut Room,
+) -> Result<(), ValueError>
+    ensures { Gives (λ _. seen.room room.new) result (rules.call_evaluated (expression of.now) (site_seen at) name.now (expressions arguments.now) (seen.room room.old)) }
+{
+    if is_helper(&room.helpers, name) {
+        evaluate(alloc, of, room)
+    } else {
+        called_behind(alloc, of, at, name, arguments, room)
+    }
+}
+
 fn evaluated(alloc: Global, of: &Expr, room: &mut Room) -> Result<(), ValueError>
     ensures { Gives (λ _. seen.room room.new) result (rules.evaluated (expression of.now) (seen.room room.old)) }
 {
@@ -181,28 +224,27 @@ fn evaluated(alloc: Global, of: &Expr, room: &mut Room) -> Result<(), ValueError
             site,
             name,
             arguments,
-        } => called(alloc, *site, name.as_str(), arguments.as_slice(), room),
-        _ => effect(alloc, of, room),
+        } => call_evaluated(alloc, of, *site, name.as_str(), arguments, room),
+        _ => evaluate(alloc, of, room),
     }
 }
 
-// The number and the test of an `if`.
-fn counted_test(
+/// The number and the test of an `if`, of which the effects stand in front of it.
+pub fn drawn_test(
     alloc: Global,
     at: Site,
     test: &Expr,
     room: &mut Room,
 ) -> Result<(u32, Term), ValueError>
-    ensures { Gives (λ x. (x.0, term x.1, seen.room room.new)) result (rules.counted_test (site_seen at) (expression test.now) (seen.room room.old)) }
+    ensures { Gives (λ x. (x.0, term x.1, seen.room room.new)) result (rules.drawn_test (site_seen at) (expression test.now) (seen.room room.old)) }
 {
-    let number = room.count(at)?;
-    let test = test_of(alloc, test, room)?;
-    Ok((number, test))
+    draw_whole(alloc, test, room)?;
+    counted_test(alloc, at, test, room)
 }
 
 // The update of a loop, apart.
 fn update_part(alloc: Global, update: &Option<Expr>, room: &mut Room) -> Result<Part, ValueError>
-    ensures { Gives (λ p. (seen.part p, seen.room room.new)) result (rules.part (rules.maybe_effect (maybe update.now)) (seen.room room.old)) }
+    ensures { Gives (λ p. (seen.part p, seen.room room.new)) result (parts.part (rules.maybe_effect (maybe update.now)) (seen.room room.old)) }
 {
     let before = room.set_apart(alloc);
     maybe_effect(alloc, update, room)?;
@@ -211,14 +253,14 @@ fn update_part(alloc: Global, update: &Option<Expr>, room: &mut Room) -> Result<
 
 // The `break` of a loop, apart.
 fn break_part(alloc: Global, at: Site, of: u32, room: &mut Room) -> Result<Part, ValueError>
-    ensures { Gives (λ p. (seen.part p, seen.room room.new)) result (rules.part (rules.break_of (site_seen at) of) (seen.room room.old)) }
+    ensures { Gives (λ p. (seen.part p, seen.room room.new)) result (parts.part (rules.break_of (site_seen at) of) (seen.room room.old)) }
 {
     let before = room.set_apart(alloc);
     break_of(at, of, room)?;
     Ok(room.rejoin(before))
 }
 
-// The test at the end of a `do`.
+// A loop is left where its test does not hold.
 fn left_unless(
     alloc: Global,
     at: Site,
@@ -228,14 +270,9 @@ fn left_unless(
 ) -> Result<(), ValueError>
     ensures { Gives (λ _. seen.room room.new) result (rules.left_unless (site_seen at) (expression test.now) of (seen.room room.old)) }
 {
-    let number = room.count(at)?;
-    let test = test_of(alloc, test, room)?;
+    let (number, test) = drawn_test(alloc, at, test, room)?;
     let jump = break_part(alloc, at, of, room)?;
-    let nothing = Part {
-        statements: Vec::new(alloc),
-        standings: Vec::new(alloc),
-    };
-    put_if(at, number, test, nothing, jump, room)
+    put_if(at, number, test, no_part(alloc), jump, room)
 }
 
 /// Writes statements in order.
@@ -279,7 +316,7 @@ fn block_part<'a>(
     body: &'a [Stmt],
     room: &mut Room<'a>,
 ) -> Result<Part, ValueError>
-    ensures { Gives (λ p. (seen.part p, seen.room room.new)) result (rules.part (rules.block (rules.write_all (seen.around around) (statements_seen body.now))) (seen.room room.old)) }
+    ensures { Gives (λ p. (seen.part p, seen.room room.new)) result (parts.part (rules.block (rules.write_all (seen.around around) (statements_seen body.now))) (seen.room room.old)) }
 {
     let before = room.set_apart(alloc);
     block(alloc, around, body, room)?;
@@ -359,6 +396,116 @@ fn turned<'a>(
     put_loop(at, number, test, body, update, room)
 }
 
+// A loop that tests in front of its body.
+#[cycle(writing)]
+fn loop_testing<'a>(
+    alloc: Global,
+    at: Site,
+    test: &Option<Expr>,
+    body: &'a [Stmt],
+    update: &Option<Expr>,
+    room: &mut Room<'a>,
+) -> Result<(), ValueError>
+    ensures { Gives (λ _. seen.room room.new) result (rules.loop_of (site_seen at) (rules.maybe_test (maybe test.now)) (λ n. rules.write_all (rules.InLoop n false) (statements_seen body.now)) (rules.maybe_effect (maybe update.now)) (seen.room room.old)) }
+{
+    begin(alloc, room);
+    let number = room.count(at)?;
+    let test = maybe_test(alloc, test, room)?;
+    turned(alloc, (at, number, test), body, update, room)
+}
+
+// The body of a loop whose test has effects, as a block.
+#[cycle(writing)]
+fn tested_block<'a>(
+    alloc: Global,
+    at: Site,
+    of: u32,
+    body: &'a [Stmt],
+    test: &Expr,
+    room: &mut Room<'a>,
+) -> Result<(), ValueError>
+    ensures { Gives (λ _. seen.room room.new) result (rules.block (rules.tested_body (site_seen at) of (expression test.now) (rules.write_all (rules.InLoop of false) (statements_seen body.now))) (seen.room room.old)) }
+{
+    let scope = room.open(alloc);
+    left_unless(alloc, at, test, of, room)?;
+    let around = Around::InLoop {
+        number: of,
+        tests_last: false,
+    };
+    write_all(alloc, around, body, room)?;
+    room.close(alloc, scope)?;
+    Ok(())
+}
+
+#[cycle(writing)]
+fn tested_part<'a>(
+    alloc: Global,
+    at: Site,
+    number: u32,
+    body: &'a [Stmt],
+    test: &Expr,
+    room: &mut Room<'a>,
+) -> Result<Part, ValueError>
+    ensures { Gives (λ p. (seen.part p, seen.room room.new)) result (parts.part (rules.block (rules.tested_body (site_seen at) number (expression test.now) (rules.write_all (rules.InLoop number false) (statements_seen body.now)))) (seen.room room.old)) }
+{
+    let before = room.set_apart(alloc);
+    tested_block(alloc, at, number, body, test, room)?;
+    Ok(room.rejoin(before))
+}
+
+// A loop whose test has effects.
+#[cycle(writing)]
+fn inner_loop<'a>(
+    alloc: Global,
+    at: Site,
+    body: &'a [Stmt],
+    test: &Expr,
+    update: &Option<Expr>,
+    room: &mut Room<'a>,
+) -> Result<(), ValueError>
+    ensures { Gives (λ _. seen.room room.new) result (rules.inner_loop (site_seen at) (expression test.now) (λ n. rules.write_all (rules.InLoop n false) (statements_seen body.now)) (rules.maybe_effect (maybe update.now)) (seen.room room.old)) }
+{
+    let number = room.count(at)?;
+    let body = tested_part(alloc, at, number, body, test, room)?;
+    let update = update_part(alloc, update, room)?;
+    put_loop(at, number, always(), body, update, room)
+}
+
+// A `while` whose test has no effects.
+#[cycle(writing)]
+fn plain_while<'a>(
+    alloc: Global,
+    at: Site,
+    body: &'a [Stmt],
+    test: &Expr,
+    room: &mut Room<'a>,
+) -> Result<(), ValueError>
+    ensures { Gives (λ _. seen.room room.new) result (rules.plain_while (site_seen at) (expression test.now) (λ n. rules.write_all (rules.InLoop n false) (statements_seen body.now)) (seen.room room.old)) }
+{
+    let (number, test) = drawn_test(alloc, at, test, room)?;
+    let nothing = None;
+    turned(alloc, (at, number, test), body, &nothing, room)
+}
+
+#[cycle(writing)]
+#[tactic(auto, unfolding(crate::specs::Writing::while_of))]
+fn while_loop<'a>(
+    alloc: Global,
+    at: Site,
+    body: &'a [Stmt],
+    test: &Expr,
+    room: &mut Room<'a>,
+) -> Result<(), ValueError>
+    ensures { Gives (λ _. seen.room room.new) result (rules.while_of (site_seen at) (expression test.now) (λ n. rules.write_all (rules.InLoop n false) (statements_seen body.now)) (seen.room room.old)) }
+{
+    if has_effect(&room.helpers, test) {
+        let nothing = None;
+        inner_loop(alloc, at, body, test, &nothing, room)
+    } else {
+        plain_while(alloc, at, body, test, room)
+    }
+}
+
 // The loop of a `for`, behind its first part.
 #[cycle(writing)]
 fn for_loop<'a>(
@@ -369,11 +516,14 @@ fn for_loop<'a>(
     update: &Option<Expr>,
     room: &mut Room<'a>,
 ) -> Result<(), ValueError>
-    ensures { Gives (λ _. seen.room room.new) result (rules.loop_of (site_seen at) (rules.maybe_test (maybe test.now)) (λ n. rules.write_all (rules.InLoop n false) (statements_seen body.now)) (rules.maybe_effect (maybe update.now)) (seen.room room.old)) }
+    ensures { Gives (λ _. seen.room room.new) result (rules.for_of (site_seen at) (maybe test.now) (λ n. rules.write_all (rules.InLoop n false) (statements_seen body.now)) (rules.maybe_effect (maybe update.now)) (seen.room room.old)) }
 {
-    let number = room.count(at)?;
-    let test = maybe_test(alloc, test, room)?;
-    turned(alloc, (at, number, test), body, update, room)
+    match test {
+        Some(inner) if has_effect(&room.helpers, inner) => {
+            inner_loop(alloc, at, body, inner, update, room)
+        }
+        _ => loop_testing(alloc, at, test, body, update, room),
+    }
 }
 
 // The body of a `do` with its test, apart.
@@ -386,7 +536,7 @@ fn do_part<'a>(
     test: &Expr,
     room: &mut Room<'a>,
 ) -> Result<Part, ValueError>
-    ensures { Gives (λ p. (seen.part p, seen.room room.new)) result (rules.part (rules.do_body (site_seen at) number (rules.write_all (rules.InLoop number true) (statements_seen body.now)) (expression test.now)) (seen.room room.old)) }
+    ensures { Gives (λ p. (seen.part p, seen.room room.new)) result (parts.part (rules.do_body (site_seen at) number (rules.write_all (rules.InLoop number true) (statements_seen body.now)) (expression test.now)) (seen.room room.old)) }
 {
     let before = room.set_apart(alloc);
     let around = Around::InLoop {
@@ -410,11 +560,7 @@ fn do_loop<'a>(
 {
     let number = room.count(at)?;
     let body = do_part(alloc, at, number, body, test, room)?;
-    let nothing = Part {
-        statements: Vec::new(alloc),
-        standings: Vec::new(alloc),
-    };
-    put_loop(at, number, always(), body, nothing, room)
+    put_loop(at, number, always(), body, no_part(alloc), room)
 }
 
 /// What a `for` has in parentheses.
@@ -443,10 +589,10 @@ fn for_whole<'a>(
     Ok(())
 }
 
-// Writes a statement.
+/// Writes a statement.
 #[cycle(writing)]
 #[tactic(auto, using(crate::proofs::Trees::nodes), unfolding(crate::specs::Writing::write_statement))]
-fn write_statement<'a>(
+pub fn write_statement<'a>(
     alloc: Global,
     around: Around,
     statement: &'a Stmt,
@@ -465,7 +611,7 @@ fn write_statement<'a>(
             skipped,
             ..
         } => {
-            let (number, test) = counted_test(alloc, *site, test, room)?;
+            let (number, test) = drawn_test(alloc, *site, test, room)?;
             let branch = branch_of(alloc, (*site, number, test), around, taken, room)?;
             otherwise(alloc, around, branch, skipped, room)
         }
@@ -474,11 +620,7 @@ fn write_statement<'a>(
             test,
             body,
             ..
-        } => {
-            let (number, test) = counted_test(alloc, *site, test, room)?;
-            let nothing = None;
-            turned(alloc, (*site, number, test), body, &nothing, room)
-        }
+        } => while_loop(alloc, *site, body, test, room),
         Stmt::Do {
             site,
             body,
@@ -506,7 +648,7 @@ fn write_statement<'a>(
         }
         Stmt::Break { site, .. } => left(*site, around, room),
         Stmt::Continue { site, .. } => goes_on(*site, around, room),
-        Stmt::Return { site, value, .. } => returned(*site, value, room),
+        Stmt::Return { site, value, .. } => returned(alloc, *site, value, room),
         Stmt::Block { body, .. } => block(alloc, around, body, room),
         Stmt::Empty { .. } => Ok(()),
     }

@@ -20,7 +20,9 @@ use Rattle.std.specs.declared.alloc.Global.{Global}
 use Rattle.opencl_files.specs.FileTree as trees
 use Rattle.opencl_files.specs.Fronts as reads
 use Rattle.opencl_files.specs.Fronts.{type_named, more_enumerators, is_name, enumeration}
-use Rattle.opencl_files.specs.View.{enumerator, enumerators}
+use Rattle.opencl_tree.specs.declared.tree.Stmt.{Stmt}
+use Rattle.opencl_files.specs.View.{enumerator, enumerators, function}
+use Rattle.opencl_files.specs.declared.tree.Header.{Header}
 use Rattle.opencl_files.specs.declared.tree.Enumerator as code
 
 pub type_named-is : (ks : List Known) (at : Site) (ts : List Lexeme) → run (type_named ks at) ts ≡ carry (run (alias ks 64 0 at) ts) (λ d rest. carry (run (expects is_semicolon) rest) (λ s rest. Took d rest))
@@ -75,4 +77,8 @@ pub known-snoc : (ks : List words.Known) (k : words.Known) → map known (ks ++ 
 known-snoc [] k = refl
 known-snoc (x ∷ ks) k = ap (λ r. known x ∷ r) (known-snoc ks k)
 
-pub ruleset front_steps = (stops-carry, type_named-is, value-is, enumerator-is, enumerators-none, enumerators-less, enumerators-are, enumeration-is, enumerators-snoc, lists-snoc, aliases-snoc, known-snoc)
+pub functions-snoc : (fs : List (Header × Vec Stmt Global)) (f : Header × Vec Stmt Global) → map function (fs ++ f ∷ []) ≡ map function fs ++ function f ∷ []
+functions-snoc [] f = refl
+functions-snoc (x ∷ fs) f = ap (λ r. function x ∷ r) (functions-snoc fs f)
+
+pub ruleset front_steps = (stops-carry, type_named-is, value-is, enumerator-is, enumerators-none, enumerators-less, enumerators-are, enumeration-is, enumerators-snoc, lists-snoc, aliases-snoc, known-snoc, functions-snoc)

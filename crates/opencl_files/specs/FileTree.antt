@@ -30,9 +30,10 @@ pub record Enumerator : Type 0 where
   pub name : List ℕ
   pub value : Option Expression
 
--- a kernel, and in front of it in its file the names of types, and the enumerations, each with its constants
+-- a kernel, and in front of it in its file the names of types, the enumerations, each with its constants, and the functions with a body
 pub record KernelText : Type 0 where
   pub header : Header
   pub body : Statements
   pub aliases : List Declaration
   pub enumerations : List (List Enumerator)
+  pub functions : List (Header × Statements)

@@ -15,7 +15,7 @@ on (Ok a) next = next a
 on (Err e) next = Err e
 
 abbrev pub text_of : Gathered → Attempt (Header × Statements) → Answer KernelText
-text_of g (Took f rest) = Ok (record { header = f.0; body = f.1; aliases = g.aliases; enumerations = g.enumerations })
+text_of g (Took f rest) = Ok (record { header = f.0; body = f.1; aliases = g.aliases; enumerations = g.enumerations; functions = g.functions })
 text_of g (Refused fault at) = Err (Text fault, at)
 
 -- with what stands before it

@@ -1,9 +1,10 @@
--- What stands before a kernel in its file and is heeded: names of types (C99 6.7.7) and enumerations (C99 6.7.2.2).
-use Rattle.std.specs.Prelude.{ℕ, zero, suc, List, [], ◌∷◌, ◌++◌, Bool, true, false, cond, nat_lt, length, Option, None, Some}
+-- What stands before a kernel in its file and is heeded: names of types (C99 6.7.7), enumerations (C99 6.7.2.2) and functions with a body
+-- (C99 6.9.1).
+use Rattle.std.specs.Prelude.{ℕ, zero, suc, List, [], ◌∷◌, ◌++◌, Bool, true, false, cond, ◌&&◌, nat_lt, length, Option, None, Some, is_some}
 use Rattle.semantics.specs.Core.{Site}
 use Rattle.opencl_tokens.specs.Words as words
 use Rattle.opencl_tokens.specs.Lexemes.{Lexeme, LexemeKind, Word, Name}
-use Rattle.opencl_tree.specs.Tree.{Expression, Declaration}
+use Rattle.opencl_tree.specs.Tree.{Expression, Declaration, Statements}
 use Rattle.opencl_parser.specs.Faults.{TooMany}
 use Rattle.opencl_parser.specs.Reader.{Reader, Gives, Fails, Looks, Passes, Then, expects, takes, Attempt, Took, Refused, run, front, behind}
 use Rattle.opencl_parser.specs.Signs.{is_comma}
@@ -11,8 +12,10 @@ use Rattle.opencl_parser.specs.TypeNames.{Known}
 use Rattle.opencl_parser.specs.Expressions.{level}
 use Rattle.opencl_parser.specs.Declarations.{is_equal, is_left_brace, is_right_brace, new_name, alias}
 use Rattle.opencl_parser.specs.Statements.{is_semicolon}
-use Rattle.opencl_files.specs.FileTree.{Enumerator}
+use Rattle.opencl_files.specs.FileTree.{Header, Enumerator}
 use Rattle.opencl_files.specs.Chunks.{Chunk}
+use Rattle.opencl_files.specs.Functions.{function_in, at_first}
+use Rattle.opencl_files.specs.Headers.{function}
 
 -- behind `typedef`
 unfoldable pub type_named : List Known → Site → Reader (Declaration × Known)
@@ -48,37 +51,51 @@ is_name kind = false
 unfoldable pub enumeration : List Known → Reader (List Enumerator)
 enumeration ks = Looks (λ t. cond (is_name t.kind) (Passes (enumerators ks)) (enumerators ks))
 
--- what was read: the names that are types, their declarations, and the enumerations
+-- what was read: the names that are types, their declarations, the enumerations, and the functions
 pub record Gathered : Type 0 where
   pub known : List Known
   pub aliases : List Declaration
   pub enumerations : List (List Enumerator)
+  pub functions : List (Header × Statements)
 
 abbrev pub nothing_yet : Gathered
-nothing_yet = record { known = []; aliases = []; enumerations = [] }
+nothing_yet = record { known = []; aliases = []; enumerations = []; functions = [] }
 
 -- what cannot be read is passed over, and its names are unknown
 abbrev pub with_alias : Gathered → Attempt (Declaration × Known) → Gathered
-with_alias g (Took d rest) = record { known = g.known ++ d.1 ∷ []; aliases = g.aliases ++ d.0 ∷ []; enumerations = g.enumerations }
+with_alias g (Took d rest) = record g { known = g.known ++ d.1 ∷ []; aliases = g.aliases ++ d.0 ∷ [] }
 with_alias g (Refused fault at) = g
 
 abbrev pub with_enumeration : Gathered → Attempt (List Enumerator) → Gathered
-with_enumeration g (Took es rest) = record { known = g.known; aliases = g.aliases; enumerations = g.enumerations ++ es ∷ [] }
+with_enumeration g (Took es rest) = record g { enumerations = g.enumerations ++ es ∷ [] }
 with_enumeration g (Refused fault at) = g
 
--- at most so many names of types are heeded (ours)
-abbrev pub most_aliases : ℕ
-most_aliases = 1024
+abbrev pub with_function : Gathered → Attempt (Header × Statements) → Gathered
+with_function g (Took f rest) = record g { functions = g.functions ++ f ∷ [] }
+with_function g (Refused fault at) = g
 
-abbrev pub by_word : Gathered → List Lexeme → LexemeKind → Gathered
-by_word g ts (Word words.Typedef) =
-    cond (nat_lt (length g.known) most_aliases) (with_alias g (run (type_named g.known (front ts).site) (behind ts))) g
-by_word g ts (Word words.Enum) = with_enumeration g (run (enumeration g.known) (behind ts))
-by_word g ts kind = g
+-- at most so many names of types, and functions, are heeded (ours)
+abbrev pub most_heeded : ℕ
+most_heeded = 1024
 
-unfoldable pub with_chunk : Gathered → List Lexeme → Gathered
-with_chunk g ts = by_word g ts (front ts).kind
+abbrev pub typed : Gathered → List Lexeme → Gathered
+typed g ts = cond (nat_lt (length g.known) most_heeded) (with_alias g (run (type_named g.known (front ts).site) (behind ts))) g
+
+abbrev pub performed : Gathered → List Lexeme → Gathered
+performed g ts = cond (nat_lt (length g.functions) most_heeded) (with_function g (run (function g.known) ts)) g
+
+-- a function has a body
+abbrev pub is_function : Chunk → Bool
+is_function c = c.is_braced && is_some (function_in at_first c.lexemes)
+
+abbrev pub by_word : Gathered → Chunk → LexemeKind → Gathered
+by_word g c (Word words.Typedef) = typed g c.lexemes
+by_word g c (Word words.Enum) = with_enumeration g (run (enumeration g.known) (behind c.lexemes))
+by_word g c kind = cond (is_function c) (performed g c.lexemes) g
+
+unfoldable pub with_chunk : Gathered → Chunk → Gathered
+with_chunk g c = by_word g c (front c.lexemes).kind
 
 abbrev pub gathered : Gathered → List Chunk → Gathered
 gathered g [] = g
-gathered g (c ∷ cs) = gathered (with_chunk g c.lexemes) cs
+gathered g (c ∷ cs) = gathered (with_chunk g c) cs

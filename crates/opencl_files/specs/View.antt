@@ -185,7 +185,12 @@ abbrev pub enumerators : Vec Enumerator Global → List trees.Enumerator
 enumerators es = map enumerator es.items
 
 abbrev pub gathered : Gathered → fronts.Gathered
-gathered g = record { known = all_known g.known.items; aliases = map declaration g.aliases.items; enumerations = map enumerators g.enumerations.items }
+gathered g = record {
+  known = all_known g.known.items;
+  aliases = map declaration g.aliases.items;
+  enumerations = map enumerators g.enumerations.items;
+  functions = map function g.functions.items;
+}
 
 abbrev pub kernel_text : KernelText → trees.KernelText
 kernel_text k = record {
@@ -193,4 +198,5 @@ kernel_text k = record {
   body = body k.body;
   aliases = map declaration k.aliases.items;
   enumerations = map enumerators k.enumerations.items;
+  functions = map function k.functions.items;
 }

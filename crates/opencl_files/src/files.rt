@@ -29,6 +29,7 @@ fn text_with(
             body,
             aliases: gathered.aliases,
             enumerations: gathered.enumerations,
+            functions: gathered.functions,
         }),
         Err(ParseError::At { fault, site }) => Err(FileError::At {
             fault: FileFault::Text(fault),

@@ -1,4 +1,4 @@
-//! What stands before a kernel in its file: names of types, and enumerations.
+//! What stands before a kernel in its file: names of types, enumerations, and functions.
 
 ghost use Rattle.std.specs.Prelude.{◌≡◌, IfOk};
 ghost use Rattle.core_code.specs.View.{site as site_of};
@@ -8,10 +8,13 @@ ghost use Rattle.opencl_parser.specs.Reader.{run};
 ghost use Rattle.opencl_parser.specs.View.{lexemes, Reads, all_known};
 ghost use Rattle.opencl_parser.specs.DeclarationsView.{defined as defined_seen};
 ghost use Rattle.opencl_files.specs.Fronts as reads;
-ghost use Rattle.opencl_files.specs.View.{chunks as chunks_seen, enumerator as enumerator_seen, enumerators as enumerators_seen, gathered as gathered_seen};
+ghost use Rattle.opencl_files.specs.Headers as functions;
+ghost use Rattle.opencl_files.specs.View.{chunk as chunk_seen, chunks as chunks_seen, enumerator as enumerator_seen, enumerators as enumerators_seen, gathered as gathered_seen};
 
 use crate::chunks::Chunk;
-use crate::tree::Enumerator;
+use crate::functions::function_in;
+use crate::headers::function;
+use crate::tree::{Enumerator, Header};
 use core_code::tree::Site;
 use opencl_parser::aliases::{Place, alias};
 use opencl_parser::declarations::{is_equal, is_left_brace, is_right_brace, new_name};
@@ -22,18 +25,19 @@ use opencl_parser::signs::is_comma;
 use opencl_parser::stops::{ParseError, ParseFault};
 use opencl_parser::type_words::Known;
 use opencl_tokens::{Lexeme, LexemeKind, Word};
-use opencl_tree::tree::{Declaration, Expr};
+use opencl_tree::tree::{Declaration, Expr, Stmt};
 use std::alloc::{AllocError, Global};
 
-/// At most so many names of types are heeded.
-const MOST_ALIASES: usize = 1_024;
+/// At most so many names of types, and functions, are heeded.
+const MOST_HEEDED: usize = 1_024;
 
-/// What was read: the names that are types, their declarations, and the enumerations.
+/// What was read: the names that are types, their declarations, the enumerations, and the functions.
 #[derive(Drop)]
 pub struct Gathered<'a> {
     pub known: Vec<Known<'a>>,
     pub aliases: Vec<Declaration>,
     pub enumerations: Vec<Vec<Enumerator>>,
+    pub functions: Vec<(Header, Vec<Stmt>)>,
 }
 
 // Behind `typedef`.
@@ -197,28 +201,76 @@ fn with_enumeration<'a>(
     }
 }
 
-#[tactic(auto, unfolding(crate::specs::Fronts::with_chunk))]
-fn with_chunk<'a>(
+fn typed<'a>(
     alloc: Global,
     so: &mut Gathered<'a>,
     tokens: &'a [Lexeme<'a>],
 ) -> Result<(), AllocError>
-    ensures { IfOk result (λ x. gathered_seen so.new ≡ reads.with_chunk (gathered_seen so.old) (lexemes tokens.now)) }
+    ensures { IfOk result (λ x. gathered_seen so.new ≡ reads.typed (gathered_seen so.old) (lexemes tokens.now)) }
 {
-    match kind_at(tokens) {
-        LexemeKind::Word(Word::Typedef) => {
-            if so.known.len() < MOST_ALIASES {
-                with_alias(alloc, so, site_at(tokens), behind(tokens))
+    if so.known.len() < MOST_HEEDED {
+        with_alias(alloc, so, site_at(tokens), behind(tokens))
+    } else {
+        Ok(())
+    }
+}
+
+#[tactic(auto, using(crate::proofs::FrontSteps::front_steps))]
+fn with_function<'a>(
+    alloc: Global,
+    so: &mut Gathered<'a>,
+    tokens: &'a [Lexeme<'a>],
+) -> Result<(), AllocError>
+    ensures { IfOk result (λ x. gathered_seen so.new ≡ reads.with_function (gathered_seen so.old) (run (functions.function (all_known so.old.known.items)) (lexemes tokens.now))) }
+{
+    match function(alloc, so.known.as_slice(), tokens) {
+        Ok((found, _)) => {
+            so.functions.push(found)?;
+            Ok(())
+        }
+        Err(ParseError::At { .. }) => Ok(()),
+        Err(ParseError::Memory) => Err(AllocError),
+    }
+}
+
+fn performed<'a>(
+    alloc: Global,
+    so: &mut Gathered<'a>,
+    tokens: &'a [Lexeme<'a>],
+) -> Result<(), AllocError>
+    ensures { IfOk result (λ x. gathered_seen so.new ≡ reads.performed (gathered_seen so.old) (lexemes tokens.now)) }
+{
+    if so.functions.len() < MOST_HEEDED {
+        with_function(alloc, so, tokens)
+    } else {
+        Ok(())
+    }
+}
+
+fn is_function(chunk: Chunk<'_>) -> bool
+    ensures { result ≡ reads.is_function (chunk_seen chunk.entry) }
+{
+    chunk.is_braced && function_in(chunk.lexemes).is_some()
+}
+
+#[tactic(auto, unfolding(crate::specs::Fronts::with_chunk))]
+fn with_chunk<'a>(alloc: Global, so: &mut Gathered<'a>, chunk: Chunk<'a>) -> Result<(), AllocError>
+    ensures { IfOk result (λ x. gathered_seen so.new ≡ reads.with_chunk (gathered_seen so.old) (chunk_seen chunk.entry)) }
+{
+    match kind_at(chunk.lexemes) {
+        LexemeKind::Word(Word::Typedef) => typed(alloc, so, chunk.lexemes),
+        LexemeKind::Word(Word::Enum) => with_enumeration(alloc, so, behind(chunk.lexemes)),
+        _ => {
+            if is_function(chunk) {
+                performed(alloc, so, chunk.lexemes)
             } else {
                 Ok(())
             }
         }
-        LexemeKind::Word(Word::Enum) => with_enumeration(alloc, so, behind(tokens)),
-        _ => Ok(()),
     }
 }
 
-/// The names of types and the enumerations of external declarations; what cannot be read is passed over.
+/// The names of types, the enumerations and the functions of external declarations; what cannot be read is passed over.
 #[tactic(auto, using(crate::proofs::FrontSteps::front_steps))]
 pub fn gather<'a>(alloc: Global, chunks: &[Chunk<'a>]) -> Result<Gathered<'a>, AllocError>
     ensures { IfOk result (λ g. gathered_seen g ≡ reads.gathered reads.nothing_yet (chunks_seen chunks.now)) }
@@ -227,9 +279,10 @@ pub fn gather<'a>(alloc: Global, chunks: &[Chunk<'a>]) -> Result<Gathered<'a>, A
         known: Vec::new(alloc),
         aliases: Vec::new(alloc),
         enumerations: Vec::new(alloc),
+        functions: Vec::new(alloc),
     };
     for chunk in chunks {
-        with_chunk(alloc, &mut so, chunk.lexemes)?;
+        with_chunk(alloc, &mut so, *chunk)?;
     }
     Ok(so)
 }

@@ -35,11 +35,12 @@ pub struct Enumerator {
     pub value: Option<Expr>,
 }
 
-/// A kernel, and in front of it in its file the names of types, and the enumerations, each with its constants.
+/// A kernel, and in front of it in its file the names of types, the enumerations, each with its constants, and the functions with a body.
 #[derive(Drop)]
 pub struct KernelText {
     pub header: Header,
     pub body: Vec<Stmt>,
     pub aliases: Vec<Declaration>,
     pub enumerations: Vec<Vec<Enumerator>>,
+    pub functions: Vec<(Header, Vec<Stmt>)>,
 }

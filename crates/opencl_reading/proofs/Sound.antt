@@ -58,7 +58,7 @@ few-kept at w v false h = absurd cc
 
 size-kept : (ids : Kind) (outside : List Binding) (t : KernelText) (counts : List LocalCount) (sizes : Three ℕ) (v : Written) → of_size ids outside t counts sizes ≡ Ok v → is_kept v ≡ true
 size-kept ids outside t counts sizes v h =
-    let w = on-back OfCore (kernel_of ids (meant_in ids t outside) sizes t.header counts t.body) (checked t.header.site) v h in
+    let w = on-back OfCore (kernel_of ids (meant_in ids t outside) t.functions sizes t.header counts t.body) (checked t.header.site) v h in
     few-kept t.header.site w.0 v (has_few w.0.names) w.1
 
 counted-kept : (ids : Kind) (outside : List Binding) (t : KernelText) (counts : List LocalCount) (sizes : Three ℕ) (b : Bool) (v : Written) → counted ids outside t counts sizes b ≡ Ok v → is_kept v ≡ true

@@ -82,7 +82,7 @@ checked at w = with_few at w (has_few w.names)
 
 abbrev pub of_size : (ids : Kind) → (outside : List Binding) → KernelText → List LocalCount → Three ℕ → Read
 of_size ids outside t counts sizes =
-    on OfCore (kernel_of ids (meant_in ids t outside) sizes t.header counts t.body) (checked t.header.site)
+    on OfCore (kernel_of ids (meant_in ids t outside) t.functions sizes t.header counts t.body) (checked t.header.site)
 
 -- the kernel's attribute says how large its work-groups are, or the head does; what both say is the same
 abbrev pub agreed : Site → (own given : Option (Three ℕ)) → Result (Three ℕ) (Fault × Site)

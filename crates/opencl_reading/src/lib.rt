@@ -15,6 +15,8 @@ ghost use Rattle.launch_text.specs.View.{head as head_seen};
 ghost use Rattle.opencl_tokens.specs.Seen.{joined as joined_seen, token as token_seen};
 ghost use Rattle.opencl_parser.specs.View.{lexemes as lexemes_seen};
 ghost use Rattle.opencl_files.specs.View.{kernel_text as text_seen};
+ghost use Rattle.opencl_values.specs.View.{Gives as Values, bindings};
+ghost use Rattle.opencl_core.specs.Kernels as core_rules;
 ghost use Rattle.opencl_core.specs.View as cores;
 ghost use Rattle.opencl_reading.specs.Kernels as kernels;
 ghost use Rattle.opencl_reading.specs.Kernels.{read};
@@ -44,6 +46,7 @@ use opencl_files::tree::KernelText;
 use opencl_macros::{MacroError, preprocessed};
 use opencl_tokens::{Joined, Lexeme, TextFault, Token, TokenError, join, lexemes, tokens};
 use opencl_values::error::{Fault, ValueError};
+use opencl_values::scope::Binding;
 use sound_cores::sound::is_sound;
 use sound_cores::unset::first_unset;
 use std::alloc::{AllocError, Global};
@@ -108,6 +111,29 @@ struct FileText {
     text: KernelText,
 }
 
+/// The core that a kernel's text stands for, where these names are declared outside of it.
+fn core_of<'a>(
+    alloc: Global,
+    ids: Kind,
+    outside: Vec<Binding<'a>>,
+    text: &'a KernelText,
+    counts: &[LocalCount],
+    sizes: [u32; 3],
+) -> Result<Written, ValueError>
+    ensures { Values cores.written result (core_rules.kernel_of (kind_seen ids) (bindings outside.entry.items) (text_seen text.now).functions (cores.three sizes) (text_seen text.now).header (map cores.local_count counts.now) (text_seen text.now).body) }
+{
+    kernel_of(
+        alloc,
+        ids,
+        outside,
+        &text.functions,
+        sizes,
+        &text.header,
+        counts,
+        &text.body,
+    )
+}
+
 /// A kernel of these work-group sizes, whose local pointers have these lengths.
 fn of_size(
     alloc: Global,
@@ -121,7 +147,7 @@ fn of_size(
     let text = &file.text;
     let mut outside = unread(alloc, &file.names)?;
     push_meant(alloc, ids, text, &mut outside)?;
-    match kernel_of(alloc, ids, outside, sizes, &text.header, counts, &text.body) {
+    match core_of(alloc, ids, outside, text, counts, sizes) {
         Ok(of) => checked(alloc, text.header.site, of),
         Err(error) => Err(OpenClError::Core(error)),
     }

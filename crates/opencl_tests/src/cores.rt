@@ -5,10 +5,11 @@ use opencl_core::heads::LocalCount;
 use opencl_core::kernels::{Written, kernel_of};
 use opencl_files::tree::{Header, Parameter};
 use opencl_parser::block_of;
-use opencl_tokens::{Joined, Lexeme, Token, join, lexemes, tokens};
+use opencl_tokens::{Joined, Lexeme, Scalar, Token, join, lexemes, tokens};
 use opencl_tree::tree::{Declaration, Declarator, Stmt};
 use opencl_tree::types::{Base, Qualifiers};
 use opencl_values::error::ValueError;
+use opencl_values::scope::{Binding, Meaning};
 use std::alloc::{AllocError, Global};
 use std::test::Fail;
 use words::Kind;
@@ -53,6 +54,68 @@ const KERNELS: &[(&str, &str, &str, &str)] = &[
     ),
 ];
 
+/// Kernels with effects inside expressions, and such as move a pointer.
+const DRAWN: &[(&str, &str, &str, &str)] = &[
+    (
+        "__global int *a; int n; }",
+        "int i = 0; a[i++] = n; }",
+        "buffer Int value Int Int Int {1v1=Int:0;2v2=v1;3v1=(+ Int v1 Int:1);4g0[v2]=v0;}",
+        "i 2-4, _ 1-0, 1@1:5 2@1:15 3@1:14 4@1:12 ",
+    ),
+    (
+        "int n; int m; }",
+        "if (n && m--) n = 0; }",
+        "value Int value Int Int Int {1v2=(&& v0 Int:1);2if v2{3v3=v1;4v1=(- Int v1 Int:1);5v2=(&& v3 Int:1);}{}6if v2{7v0=Int:0;}{}}",
+        "_ 1-0, _ 1-0, 1@1:7 2-5@1:7 3@1:11 4@1:10 5@1:7 6-7@1:1 7@1:15 ",
+    ),
+    (
+        "int n; int m; int k; }",
+        "while (n--) m = n ? 1 : (k = 2, 3); }",
+        "value Int value Int value Int Int Int Int Int Int {1loop Int:1{2v3=v0;3v0=(- Int v0 Int:1);4if v3{}{5break 1;}6if v0{7v7=Int:1;}{8v4=Int:2;9v2=v4;10v5=v4;11v6=Int:3;12v7=v6;}13v1=v7;}{}}",
+        "_ 1-0, _ 1-0, _ 1-0, _ 1-0, _ 1-0, 1t-13@1:1 2@1:9 3@1:8 4-5@1:1 5@1:1 6-12@1:19 7@1:19 8@1:28 9@1:26 10@1:26 11@1:31 12@1:19 13@1:13 ",
+    ),
+    (
+        "int n; }",
+        "n + 1; }",
+        "value Int Int {1v1=(+ Int v0 Int:1);}",
+        "_ 1-0, 1@1:1 ",
+    ),
+    (
+        "__global int *a; int n; }",
+        "a += n; *a = 3; }",
+        "buffer Int value Int Int {1v1=Int:0;2v1=(+ Int v1 v0);3g0[(+ Int v1 Int:0)]=Int:3;}",
+        "a 2-3, 1@1:15 2@1:1 3@1:9 ",
+    ),
+];
+
+/// Whether a function `f` returns an `int`, its parameters and its body; a kernel that calls it, with its core, or its fault.
+const CALLING: &[(bool, &str, &str, &str, &str, &str)] = &[
+    (
+        true,
+        "int x; }",
+        "if (x < 0) return 0; return x * 2; }",
+        "__global int *a; int n; }",
+        "a[0] = f(n) + 1; }",
+        "buffer Int value Int Int Int {1v1=v0;2if (< Int v1 Int:0){3v2=Int:0;}{4v2=(* Int v1 Int:2);}5g0[Int:0]=(+ Int v2 Int:1);}",
+    ),
+    (
+        false,
+        "__global int *p; int v; }",
+        "p[v] += 1; }",
+        "__global int *b; __global int *a; }",
+        "f(a, 3); }",
+        "buffer Int buffer Int Int {1v0=Int:3;2g1[v0]=(+ Int (load g1 v0) Int:1);}",
+    ),
+    (
+        true,
+        "__global int *p; }",
+        "p[0] = 1; return 2; }",
+        "__global int *a; }",
+        "a[1] = a[0] + f(a); }",
+        "15 1:13 LeftOut(Effect)",
+    ),
+];
+
 /// Parameters, a body, and the fault.
 const REFUSED: &[(&str, &str, &str)] = &[
     ("int n; }", "int n; }", "21 1:5 NameTwice"),
@@ -75,8 +138,8 @@ const REFUSED: &[(&str, &str, &str)] = &[
         "15 1:5 LeftOut(InitialList)",
     ),
     ("int n; }", "int *p; }", "15 1:6 LeftOut(Pointer)"),
-    ("int n; }", "n + 1; }", "15 1:1 LeftOut(Effect)"),
-    ("int n; }", "n = n = 1; }", "15 1:7 LeftOut(Effect)"),
+    ("int n; }", "(int)(n = 1); }", "15 1:1 LeftOut(Effect)"),
+    ("int n; }", "n = n = 1; }", "15 1:3 LeftOut(Effect)"),
     ("const int n; }", "n = 1; }", "23 1:1 WriteToConst"),
     ("__constant int *a; }", "a[0] = 1; }", "23 1:1 WriteToConst"),
     ("int n; }", "__local int a[n]; }", "22 1:15 WrongType"),
@@ -132,7 +195,12 @@ const PLAIN: Qualifiers = Qualifiers {
     restrict: false,
 };
 
-fn head_of(alloc: Global, declared: Vec<Stmt>) -> Result<Header, AllocError> {
+fn head_of(
+    alloc: Global,
+    name: &str,
+    base: Base,
+    declared: Vec<Stmt>,
+) -> Result<Header, AllocError> {
     let mut parameters = Vec::new(alloc);
     for statement in declared {
         if let Stmt::Declare(declaration) = statement {
@@ -141,11 +209,11 @@ fn head_of(alloc: Global, declared: Vec<Stmt>) -> Result<Header, AllocError> {
     }
     Ok(Header {
         sizes: None,
-        base: Base::Void,
+        base,
         qualifiers: PLAIN,
         stars: Vec::new(alloc),
         site: Site { line: 1, column: 1 },
-        name: String::from_str(alloc, "k")?,
+        name: String::from_str(alloc, name)?,
         parameters,
     })
 }
@@ -165,29 +233,55 @@ fn read(alloc: Global, text: &str) -> Result<Vec<Stmt>, Fail> {
     read_lines(alloc, &lines)
 }
 
-fn kernel(
+fn function(
     alloc: Global,
+    name: &str,
+    base: Base,
+    parameters: &str,
+    body: &str,
+) -> Result<(Header, Vec<Stmt>), Fail> {
+    let declared = read(alloc, parameters)?;
+    let head = head_of(alloc, name, base, declared)?;
+    Ok((head, read(alloc, body)?))
+}
+
+fn kernel_behind(
+    alloc: Global,
+    functions: &[(Header, Vec<Stmt>)],
     parameters: &str,
     body: &str,
 ) -> Result<Result<Written, ValueError>, Fail> {
     let declared = read(alloc, parameters)?;
-    let head = head_of(alloc, declared)?;
+    let head = head_of(alloc, "k", Base::Void, declared)?;
     let body = read(alloc, body)?;
     let mut counts = Vec::new(alloc);
     counts.push(LocalCount {
         name: String::from_str(alloc, "t")?,
         count: 8,
     })?;
-    let outside = Vec::new(alloc);
+    let mut outside = Vec::new(alloc);
+    outside.push(Binding {
+        name: "f",
+        meaning: Meaning::Unread,
+    })?;
     Ok(kernel_of(
         alloc,
         Kind::Size,
         outside,
+        functions,
         [64, 1, 1],
         &head,
         &counts,
         &body,
     ))
+}
+
+fn kernel(
+    alloc: Global,
+    parameters: &str,
+    body: &str,
+) -> Result<Result<Written, ValueError>, Fail> {
+    kernel_behind(alloc, &[], parameters, body)
 }
 
 fn core_of(alloc: Global, written: &Result<Written, ValueError>) -> Result<String, Fail> {
@@ -225,12 +319,49 @@ fn kernels_are_written_out(rt: HostRuntime) -> Result<(), Fail> {
 }
 
 #[test]
+fn effects_are_drawn_out(rt: HostRuntime) -> Result<(), Fail> {
+    let alloc = rt.alloc();
+    for (parameters, body, core, names) in DRAWN {
+        let written = kernel(alloc, parameters, body)?;
+        let found = core_of(alloc, &written)?;
+        assert_eq!(rt; found.as_str(), *core);
+        let found = names_of(alloc, &written)?;
+        assert_eq!(rt; found.as_str(), *names);
+    }
+    Ok(())
+}
+
+#[test]
 fn others_are_refused(rt: HostRuntime) -> Result<(), Fail> {
     let alloc = rt.alloc();
     for (parameters, body, fault) in REFUSED {
         let written = kernel(alloc, parameters, body)?;
         let found = core_of(alloc, &written)?;
         assert_eq!(rt; found.as_str(), *fault);
+    }
+    Ok(())
+}
+
+fn base_of(is_int: bool) -> Base {
+    if is_int {
+        Base::Numbers {
+            scalar: Scalar::Int,
+            width: 1,
+        }
+    } else {
+        Base::Void
+    }
+}
+
+#[test]
+fn calls_are_written_out(rt: HostRuntime) -> Result<(), Fail> {
+    let alloc = rt.alloc();
+    for (is_int, given, inner, parameters, body, core) in CALLING {
+        let mut functions = Vec::new(alloc);
+        functions.push(function(alloc, "f", base_of(*is_int), given, inner)?)?;
+        let written = kernel_behind(alloc, &functions, parameters, body)?;
+        let found = core_of(alloc, &written)?;
+        assert_eq!(rt; found.as_str(), *core);
     }
     Ok(())
 }

@@ -1,8 +1,10 @@
 -- Which names are visible, and what they mean (C99 6.2.1 and 6.2.3).
-use Rattle.std.specs.Prelude.{ℕ, List, [], ◌∷◌, Bool, cond, ◌&&◌, Option, Some, None, bytes_eq, nat_eq}
+use Rattle.std.specs.Prelude.{ℕ, List, [], ◌∷◌, Bool, cond, Option, Some, None, bytes_eq}
 use Rattle.semantics.specs.Word.{Kind}
 use Rattle.semantics.specs.Core.{Site, Array, Term}
 use Rattle.opencl_terms.specs.Types.{ValueType}
+use Rattle.opencl_effects.specs.Marks as marks
+use Rattle.opencl_effects.specs.Marks.{Mark}
 
 -- a variable has a slot; an array has the lengths of its dimensions, the outermost first, of which a buffer has none. A private array is a
 -- row of a local array, which has one for each item of a group: `lengths` are those of the dimensions of the row. A pointer is an array
@@ -36,9 +38,10 @@ meaning_with m (b ∷ bs) name = meaning_with (cond (bytes_eq b.name name) (Some
 abbrev pub meaning_of : (visible : List Binding) → (name : List ℕ) → Option Meaning
 meaning_of visible name = meaning_with None visible name
 
--- the value of an expression with effects that was written out before, by its site: it is kept in variables from a slot on
+-- the value of an expression with effects that was written out before, by its sort and its site: it is kept in variables from a slot on. All
+-- tokens of a macro have one site, so a site alone tells no expressions apart
 pub record Drawn : Type 0 where
-  pub site : Site
+  pub mark : Mark
   pub type : ValueType
   pub slot : ℕ
 
@@ -48,12 +51,9 @@ pub record Names : Type 0 where
   pub visible : List Binding
   pub drawn : List Drawn
 
-abbrev pub is_at : (a b : Site) → Bool
-is_at a b = nat_eq a.line b.line && nat_eq a.column b.column
+abbrev pub drawn_in : List Drawn → Mark → Option Drawn
+drawn_in [] m = None
+drawn_in (d ∷ ds) m = cond (marks.is_same d.mark m) (Some d) (drawn_in ds m)
 
-abbrev pub drawn_in : List Drawn → Site → Option Drawn
-drawn_in [] site = None
-drawn_in (d ∷ ds) site = cond (is_at d.site site) (Some d) (drawn_in ds site)
-
-abbrev pub drawn_at : Names → Site → Option Drawn
-drawn_at names site = drawn_in names.drawn site
+abbrev pub drawn_at : Names → marks.Sort → Site → Option Drawn
+drawn_at names sort site = drawn_in names.drawn (record { sort = sort; site = site })

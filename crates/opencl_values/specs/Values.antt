@@ -6,6 +6,7 @@ use Rattle.semantics.specs.Core.{Site, Variable, Literal}
 use Rattle.opencl_tree.specs.Tree.{Expression, Integer, Real, Name, Call, Index, Member, Prefix, Step, Cast, Vector, Infix, Conditional, Assign, Comma, SizeofType, SizeofOf, Expressions, nothing, also}
 use Rattle.opencl_tree.specs.Types.{TypeName}
 use Rattle.opencl_terms.specs.Types.{Scalar, Size, ValueType, Value, is_vector}
+use Rattle.opencl_effects.specs.Marks.{Sort, OfCall, OfStep, OfAssign, OfComma, OfLogical, OfChoice}
 use Rattle.opencl_values.specs.Faults as faults
 use Rattle.opencl_values.specs.Faults.{Checked, UnknownName, WrongType, LeftOut, Pointer, Effect, Outside, refused, then, found}
 use Rattle.opencl_values.specs.Scope.{Meaning, VariableOf, ArrayOf, OwnOf, PointerOf, NumberOf, TypeOf, UnreadOf, Names, Drawn, meaning_of, drawn_at}
@@ -53,18 +54,18 @@ abbrev pub kept_or : Site → Checked Value → Option Drawn → Checked Value
 kept_or site otherwise (Some d) = Ok (kept site d)
 kept_or site otherwise None = otherwise
 
-abbrev pub with_effect : Names → Site → Checked Value
-with_effect names site = kept_or site (refused (LeftOut Effect) site) (drawn_at names site)
+abbrev pub with_effect : Names → Sort → Site → Checked Value
+with_effect names sort site = kept_or site (refused (LeftOut Effect) site) (drawn_at names sort site)
 
 -- `&&` and `||` may have effects in their right operand, as `?:` in its arms
 abbrev pub drawn_for : Names → InfixSign → Site → Option Drawn
-drawn_for names LogicalAnd site = drawn_at names site
-drawn_for names LogicalOr site = drawn_at names site
+drawn_for names LogicalAnd site = drawn_at names OfLogical site
+drawn_for names LogicalOr site = drawn_at names OfLogical site
 drawn_for names sign site = None
 
 -- a name that is visible is no built-in function
 abbrev pub visible_called : Names → Site → Meaning → Checked Value
-visible_called names site UnreadOf = kept_or site (refused (LeftOut Outside) site) (drawn_at names site)
+visible_called names site UnreadOf = kept_or site (refused (LeftOut Outside) site) (drawn_at names OfCall site)
 visible_called names site m = refused WrongType site
 
 -- conversions of vectors, and vectors that are read
@@ -85,6 +86,10 @@ abbrev pub width_read : Option ℕ → ℕ
 width_read (Some n) = n
 width_read None = 0
 
+-- the operand of `sizeof` is not evaluated, so nothing of it was written out (6.5.3.4p2)
+abbrev pub undrawn : Names → Names
+undrawn names = record names { drawn = [] }
+
 unfoldable mutual
   pub value_of : Names → Expression → Checked Value
   value_of names (Integer site kind n) = Ok (whole (number_value site kind n))
@@ -99,7 +104,7 @@ unfoldable mutual
   value_of names (Prefix site sign e) =
       cond (is_indirection sign) (then (part_of names site e) (λ p. element_value site p first_element))
       (then (value_of names e) (prefix_of names.ids sign site))
-  value_of names (Step site side sign e) = with_effect names site
+  value_of names (Step site side sign e) = with_effect names OfStep site
   value_of names (Cast site to e) =
       then (type_of_name names.visible to site) (λ t. then (value_of names e) (converted_to names.ids site t))
   value_of names (Vector site to parts) =
@@ -107,11 +112,11 @@ unfoldable mutual
   value_of names (Infix site sign left right) =
       kept_or site (then (value_of names left) (λ l. then (value_of names right) (infix_of names.ids sign site l))) (drawn_for names sign site)
   value_of names (Conditional site test taken skipped) =
-      kept_or site (then (value_of names test) (λ t. then (value_of names taken) (λ a. then (value_of names skipped) (conditional_of names.ids site t a)))) (drawn_at names site)
-  value_of names (Assign site sign target value) = with_effect names site
-  value_of names (Comma site first second) = with_effect names site
+      kept_or site (then (value_of names test) (λ t. then (value_of names taken) (λ a. then (value_of names skipped) (conditional_of names.ids site t a)))) (drawn_at names OfChoice site)
+  value_of names (Assign site sign target value) = with_effect names OfAssign site
+  value_of names (Comma site first second) = with_effect names OfComma site
   value_of names (SizeofType site to) = then (type_of_name names.visible to site) (sizeof_type names.ids site)
-  value_of names (SizeofOf site e) = then (value_of names e) (λ v. sizeof_type names.ids site v.type)
+  value_of names (SizeofOf site e) = then (value_of (undrawn names) e) (λ v. sizeof_type names.ids site v.type)
 
   -- values of arguments, behind those so far
   pub values_behind : Names → (so_far : List Value) → Expressions → Checked (List Value)

@@ -8,6 +8,7 @@ use Rattle.words.specs.View.{kind}
 use Rattle.opencl_terms.specs.Answers.{value_type}
 use Rattle.opencl_terms.specs.Types as types
 use Rattle.opencl_terms.specs.View.{scalar}
+use Rattle.opencl_effects.specs.View.{mark}
 use Rattle.opencl_values.specs.Singles as singles
 use Rattle.opencl_values.specs.Faults as faults
 use Rattle.opencl_values.specs.Faults.{Checked}
@@ -97,7 +98,7 @@ abbrev pub bindings : List Binding → List scope.Binding
 bindings visible = map binding visible
 
 abbrev pub drawn : Drawn → scope.Drawn
-drawn d = record { site = site d.site; type = value_type d.of; slot = d.slot }
+drawn d = record { mark = mark d.mark; type = value_type d.of; slot = d.slot }
 
 abbrev pub drawn_by : Option (Bor Drawn) → Option scope.Drawn
 drawn_by None = None

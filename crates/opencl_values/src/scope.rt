@@ -3,9 +3,11 @@
 ghost use Rattle.std.specs.Prelude.{◌≡◌};
 ghost use Rattle.opencl_values.specs.Scope as scope;
 ghost use Rattle.core_code.specs.View.{site as site_seen};
+ghost use Rattle.opencl_effects.specs.View.{mark as mark_seen, sort as sort_seen};
 ghost use Rattle.opencl_values.specs.View.{all_drawn, bindings, maybe_drawn, meaning_in, names as names_seen};
 
 use core_code::tree::{Array, Site, Term};
+use opencl_effects::marks::{Mark, Sort, is_same};
 use opencl_terms::scalars::ValueType;
 use words::Kind;
 
@@ -68,10 +70,10 @@ pub fn meaning_of<'a>(visible: &'a [Binding<'_>], name: &str) -> Option<&'a Mean
     found
 }
 
-/// The value of an expression with effects that was written out before, by its site: it is kept in variables from a slot on.
+/// The value of an expression with effects that was written out before, by its sort and its site: it is kept in variables from a slot on.
 #[derive(Clone, Copy)]
 pub struct Drawn {
-    pub site: Site,
+    pub mark: Mark,
     pub of: ValueType,
     pub slot: u32,
 }
@@ -84,20 +86,20 @@ pub struct Names<'a> {
     pub drawn: &'a [Drawn],
 }
 
-fn drawn_in(drawn: &[Drawn], site: Site) -> Option<Drawn>
-    ensures { maybe_drawn result ≡ scope.drawn_in (all_drawn drawn.now) (site_seen site) }
+fn drawn_in(drawn: &[Drawn], mark: Mark) -> Option<Drawn>
+    ensures { maybe_drawn result ≡ scope.drawn_in (all_drawn drawn.now) (mark_seen mark) }
 {
     for one in drawn {
-        if one.site.line == site.line && one.site.column == site.column {
+        if is_same(one.mark, mark) {
             return Some(*one);
         }
     }
     None
 }
 
-/// The value that was written out before for the expression at a site.
-pub fn drawn_at(names: Names, site: Site) -> Option<Drawn>
-    ensures { maybe_drawn result ≡ scope.drawn_at (names_seen names.entry) (site_seen site) }
+/// The value that was written out before for the expression of a sort at a site.
+pub fn drawn_at(names: Names, sort: Sort, site: Site) -> Option<Drawn>
+    ensures { maybe_drawn result ≡ scope.drawn_at (names_seen names.entry) (sort_seen sort) (site_seen site) }
 {
-    drawn_in(names.drawn, site)
+    drawn_in(names.drawn, Mark { sort, site })
 }

@@ -4,6 +4,7 @@ ghost use Rattle.std.specs.Prelude.{◌≡◌, [], None, IfOk, Ok};
 ghost use Rattle.core_code.specs.View.{function as function_seen, site};
 ghost use Rattle.opencl_terms.specs.Answers.{value_type};
 ghost use Rattle.opencl_terms.specs.View.{scalar as scalar_seen};
+ghost use Rattle.opencl_effects.specs.View.{sort as sort_seen};
 ghost use Rattle.opencl_tree.specs.Tree as tree;
 ghost use Rattle.opencl_tree.specs.View.{expression, expressions, type_name};
 ghost use Rattle.opencl_values.specs.Calls as calls;
@@ -41,6 +42,7 @@ use crate::wholes::{Value, whole};
 use crate::widened::{Wide, read_width, wide_named};
 use core_code::tree::{Function, Operator, Site, Term};
 use core_pieces::pieces::literal;
+use opencl_effects::marks::Sort;
 use opencl_terms::scalars::{Scalar, ValueType};
 use opencl_tree::tree::Expr;
 use opencl_tree::types::TypeName;
@@ -164,12 +166,23 @@ fn kept(alloc: Global, at: Site, drawn: Drawn) -> Result<Value, ValueError>
     Ok(variable_value(alloc, at, drawn.of, drawn.slot)?)
 }
 
-fn with_effect(alloc: Global, names: Names, at: Site) -> Result<Value, ValueError>
-    ensures { Gives value_seen result (rules.with_effect (names_seen names.entry) (site at)) }
+fn with_effect(alloc: Global, names: Names, sort: Sort, at: Site) -> Result<Value, ValueError>
+    ensures { Gives value_seen result (rules.with_effect (names_seen names.entry) (sort_seen sort) (site at)) }
 {
-    match drawn_at(names, at) {
+    match drawn_at(names, sort, at) {
         Some(drawn) => kept(alloc, at, drawn),
         None => refused(Fault::LeftOut(Construct::Effect), at),
+    }
+}
+
+// Without what was written out.
+fn undrawn(names: Names<'_>) -> Names<'_>
+    ensures { names_seen result ≡ rules.undrawn (names_seen names.entry) }
+{
+    Names {
+        ids: names.ids,
+        visible: names.visible,
+        drawn: &[],
     }
 }
 
@@ -178,7 +191,7 @@ fn drawn_for(names: Names, sign: InfixSign, at: Site) -> Option<Drawn>
     ensures { maybe_drawn result ≡ rules.drawn_for (names_seen names.entry) (infix_sign sign) (site at) }
 {
     match sign {
-        InfixSign::LogicalAnd | InfixSign::LogicalOr => drawn_at(names, at),
+        InfixSign::LogicalAnd | InfixSign::LogicalOr => drawn_at(names, Sort::OfLogical, at),
         _ => None,
     }
 }
@@ -195,7 +208,7 @@ fn visible_called(
     let Meaning::Unread = meaning else {
         return refused(Fault::WrongType, at);
     };
-    match drawn_at(names, at) {
+    match drawn_at(names, Sort::OfCall, at) {
         Some(drawn) => kept(alloc, at, drawn),
         None => refused(Fault::LeftOut(Construct::Outside), at),
     }
@@ -420,9 +433,9 @@ pub fn value_of(alloc: Global, names: Names, of: &Expr) -> Result<Value, ValueEr
             member_of(alloc, names.ids, *site, of, name.as_str())
         }
         Expr::Vector { site, to, parts } => { vector_of(alloc, names, *site, to, parts.as_slice()) }
-        Expr::Step { site, .. } | Expr::Assign { site, .. } | Expr::Comma { site, .. } => {
-            with_effect(alloc, names, *site)
-        }
+        Expr::Step { site, .. } => with_effect(alloc, names, Sort::OfStep, *site),
+        Expr::Assign { site, .. } => with_effect(alloc, names, Sort::OfAssign, *site),
+        Expr::Comma { site, .. } => with_effect(alloc, names, Sort::OfComma, *site),
         Expr::Prefix { site, sign, of } => {
             if is_indirection(*sign) {
                 let pointer = part_of(alloc, names, *site, of)?;
@@ -456,7 +469,7 @@ pub fn value_of(alloc: Global, names: Names, of: &Expr) -> Result<Value, ValueEr
             taken,
             skipped,
         } => {
-            if let Some(drawn) = drawn_at(names, *site) {
+            if let Some(drawn) = drawn_at(names, Sort::OfChoice, *site) {
                 return kept(alloc, *site, drawn);
             }
             let test = value_of(alloc, names, test)?;
@@ -469,7 +482,7 @@ pub fn value_of(alloc: Global, names: Names, of: &Expr) -> Result<Value, ValueEr
             sizeof_type(alloc, names.ids, *site, of)
         }
         Expr::SizeofOf { site, of } => {
-            let of = value_of(alloc, names, of)?;
+            let of = value_of(alloc, undrawn(names), of)?;
             sizeof_type(alloc, names.ids, *site, of.of)
         }
     }

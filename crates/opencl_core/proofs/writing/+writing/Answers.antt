@@ -15,9 +15,9 @@ unfolding write_statement
 write_statement-returns-in_ok-branch-in-If t c =
     rw (ap statement c.in-If.is ∙ seen_if c.in-If.number c.in-If.site c.in-If.test c.in-If.taken c.in-If.skipped) (first_of (search rules, grind (arith, common_steps)))
 
-pub write_statement-returns-in_ok-number-in-While : goal.write_statement-returns-in_ok-number-in-While
+pub write_statement-returns-in-While : goal.write_statement-returns-in-While
 unfolding write_statement
-write_statement-returns-in_ok-number-in-While t c =
+write_statement-returns-in-While t c =
     rw (ap statement c.in-While.is ∙ seen_while c.in-While.number c.in-While.site c.in-While.test c.in-While.body) (first_of (search rules, grind (arith, common_steps)))
 
 pub write_statement-returns-in-Do : goal.write_statement-returns-in-Do

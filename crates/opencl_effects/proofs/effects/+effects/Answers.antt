@@ -1,0 +1,11 @@
+use Rattle.std.proofs.Common.{ap, ◌∙◌, rules, arith}
+use Rattle.std.proofs.lemmas.Grind.{common_steps}
+use Rattle.opencl_tree.specs.View.{expression}
+use Rattle.opencl_tree.proofs.Rows.{seen_call, seen_vector}
+use Rattle.opencl_effects.proofs.effects.+effects.Goals as goal
+
+pub has_effect-returns-else-is_helper : goal.has_effect-returns-else-is_helper
+has_effect-returns-else-is_helper t c = rw (ap expression c.in-Call.is ∙ seen_call c.in-Call.site c.in-Call.name c.in-Call.arguments) (first_of (search rules, grind (arith, common_steps)))
+
+pub has_effect-returns-in-Vector : goal.has_effect-returns-in-Vector
+has_effect-returns-in-Vector t c = rw (ap expression c.in-Vector.is ∙ seen_vector c.in-Vector.site c.in-Vector.to c.in-Vector.parts) (first_of (search rules, grind (arith, common_steps)))

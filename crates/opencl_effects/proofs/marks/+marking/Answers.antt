@@ -1,0 +1,11 @@
+use Rattle.std.proofs.Common.{ap, ◌∙◌, rules, arith}
+use Rattle.std.proofs.lemmas.Grind.{common_steps}
+use Rattle.opencl_tree.specs.View.{expression}
+use Rattle.opencl_tree.proofs.Rows.{seen_call, seen_vector}
+use Rattle.opencl_effects.proofs.marks.+marking.Goals as goal
+
+pub push_marks-returns-in_ok-note_call-in-Call : goal.push_marks-returns-in_ok-note_call-in-Call
+push_marks-returns-in_ok-note_call-in-Call t c = rw (ap expression c.in-Call.is ∙ seen_call c.in-Call.site c.in-Call.name c.in-Call.arguments) (first_of (search rules, grind (arith, common_steps)))
+
+pub push_marks-returns-in-Vector : goal.push_marks-returns-in-Vector
+push_marks-returns-in-Vector t c = rw (ap expression c.in-Vector.is ∙ seen_vector c.in-Vector.site c.in-Vector.to c.in-Vector.parts) (first_of (search rules, grind (arith, common_steps)))

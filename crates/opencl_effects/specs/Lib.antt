@@ -1,0 +1,3 @@
+pub mod Effects
+pub mod Marks
+pub mod View

@@ -1,0 +1,33 @@
+use Rattle.std.proofs.Common.{ap, ◌∙◌, rules, arith}
+use Rattle.std.proofs.lemmas.Grind.{common_steps}
+use Rattle.opencl_tree.specs.View.{statement}
+use Rattle.opencl_tree.proofs.Rows.{seen_if, seen_while, seen_do, seen_for, seen_switch, seen_block}
+use Rattle.opencl_moves.proofs.moves.+stirring.Goals as goal
+
+pub moves_in-returns-then-moves_among : goal.moves_in-returns-then-moves_among
+moves_in-returns-then-moves_among t c =
+    rw (ap statement c.in-If.is ∙ seen_if c.in-If.number c.in-If.site c.in-If.test c.in-If.taken c.in-If.skipped) (first_of (search rules, grind (arith, common_steps)))
+
+pub moves_in-returns-else-moves_among : goal.moves_in-returns-else-moves_among
+moves_in-returns-else-moves_among t c =
+    rw (ap statement c.in-If.is ∙ seen_if c.in-If.number c.in-If.site c.in-If.test c.in-If.taken c.in-If.skipped) (first_of (search rules, grind (arith, common_steps)))
+
+pub moves_in-returns-in-Block : goal.moves_in-returns-in-Block
+moves_in-returns-in-Block t c =
+    rw (ap statement c.in-Block.is ∙ seen_block c.in-Block.number c.in-Block.site c.in-Block.body) (first_of (search rules, grind (arith, common_steps)))
+
+pub moves_in-returns-else-maybe_moves-2 : goal.moves_in-returns-else-maybe_moves-2
+moves_in-returns-else-maybe_moves-2 t c =
+    rw (ap statement c.in-For.is ∙ seen_for c.in-For.number c.in-For.site c.in-For.first c.in-For.test c.in-For.update c.in-For.body) (first_of (search rules, grind (arith, common_steps)))
+
+pub moves_in-returns-else-moves-2 : goal.moves_in-returns-else-moves-2
+moves_in-returns-else-moves-2 t c =
+    rw (ap statement c.in-While.is ∙ seen_while c.in-While.number c.in-While.site c.in-While.test c.in-While.body) (first_of (search rules, grind (arith, common_steps)))
+
+pub moves_in-returns-else-moves-3 : goal.moves_in-returns-else-moves-3
+moves_in-returns-else-moves-3 t c =
+    rw (ap statement c.in-Do.is ∙ seen_do c.in-Do.number c.in-Do.site c.in-Do.body c.in-Do.test) (first_of (search rules, grind (arith, common_steps)))
+
+pub moves_in-returns-else-moves-4 : goal.moves_in-returns-else-moves-4
+moves_in-returns-else-moves-4 t c =
+    rw (ap statement c.in-Switch.is ∙ seen_switch c.in-Switch.number c.in-Switch.site c.in-Switch.test c.in-Switch.body) (first_of (search rules, grind (arith, common_steps)))

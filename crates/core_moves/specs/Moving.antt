@@ -1,5 +1,6 @@
--- Core statements put elsewhere: a text that was written out once, apart from all kernels, stands in a kernel, behind what is written there.
--- Its statements have higher numbers there, its variables higher slots, and its buffers, which are parameters, are arrays of the kernel.
+-- Core statements put elsewhere: a text that was written out once, apart from all kernels, stands in a kernel, behind what is written
+-- there. Its statements have higher numbers there, its variables higher slots, and its buffers, which are parameters, are arrays of the
+-- kernel.
 use Rattle.std.specs.Prelude.{ℕ, ◌+◌, List, slice_index_or}
 use Rattle.semantics.specs.Core.{Space, Global, Local, Array, Term, Literal, Variable, Id, Load, Unary, Binary, Convert, Compare, Not, And, Or, Select, Minimum, Maximum, Shift, Within, Opaque, Statement, Set, Store, If, Loop, Barrier, Return, Break, Continue, Statements, none, one}
 

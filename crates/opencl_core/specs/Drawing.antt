@@ -1,6 +1,6 @@
 -- Expressions with effects, drawn out: what they store is written in front of the statement in which they stand, left to right, and their
--- values are kept in variables, which are found by the sorts and places of their operators (C99 6.5, 5.1.2.3). Where C leaves the order of two
--- operands open, and it matters, they are left out (6.5p2 and p3). Where nothing has an effect nothing is written.
+-- values are kept in variables, which are found by the sorts and places of their operators (C99 6.5, 5.1.2.3). Where C leaves the order of
+-- two operands open, and it matters, they are left out (6.5p2 and p3). Where nothing has an effect nothing is written.
 use Rattle.std.specs.Prelude.{ℕ, List, [], ◌∷◌, ◌++◌, pos, Bool, true, false, cond, not, ◌||◌, None, Some, Ok}
 use Rattle.semantics.specs.Word as word
 use Rattle.semantics.specs.Word.{Kind}

@@ -1,5 +1,5 @@
--- The functions that stand before a kernel in its file, each written out once, in order: it may call those in front of it (C99 6.9.1; OpenCL
--- 1.2, 6.9 i). Its parameters have the first slots, then come those of what it returns.
+-- The functions that stand before a kernel in its file, each written out once, in order: it may call those in front of it (C99 6.9.1;
+-- OpenCL 1.2, 6.9 i). Its parameters have the first slots, then come those of what it returns.
 use Rattle.std.specs.Prelude.{ℕ, ◌-◌, List, [], ◌∷◌, ◌++◌, length, map, Bool, true, false, cond, not, ◌||◌, ◌&&◌, nat_eq, Option, None, Some, Ok}
 use Rattle.semantics.specs.Word.{Kind}
 use Rattle.semantics.specs.Core as core

@@ -1,5 +1,5 @@
--- The body of a function of the file, which is put where it is called: a `return` gives the slot of the result its value, and stands last on
--- its way (C99 6.8.6.4). What stands behind an `if` of which one part always returns goes into the other part.
+-- The body of a function of the file, which is put where it is called: a `return` gives the slot of the result its value, and stands last
+-- on its way (C99 6.8.6.4). What stands behind an `if` of which one part always returns goes into the other part.
 use Rattle.std.specs.Prelude.{Bool, true, false, cond, not, ◌||◌, ◌&&◌, Option, Ok}
 use Rattle.semantics.specs.Core.{Site}
 use Rattle.opencl_tree.specs.Tree.{Expression, Statement, Declare, Typedef, Evaluate, If, While, Do, For, Switch, Case, Default, Break, Continue, Return, Block, Empty, Statements, none, one}

@@ -1,5 +1,5 @@
--- The functions of a file, each written out once, apart from all kernels, to be put where it is called (C99 6.5.2.2, 6.9.1; OpenCL 1.2, 6.8).
--- The slots of such a text are counted from 0, its statements from 1; its buffers are its parameters that are pointers.
+-- The functions of a file, each written out once, apart from all kernels, to be put where it is called (C99 6.5.2.2, 6.9.1; OpenCL 1.2,
+-- 6.8). The slots of such a text are counted from 0, its statements from 1; its buffers are its parameters that are pointers.
 use Rattle.std.specs.Prelude.{ℕ, List, [], ◌∷◌, Bool, true, false, cond, ◌||◌, Option, None, Some, Ok, Err, bytes_eq}
 use Rattle.semantics.specs.Word.{Kind}
 use Rattle.semantics.specs.Core as core
@@ -8,8 +8,8 @@ use Rattle.opencl_terms.specs.Types.{ValueType}
 use Rattle.opencl_effects.specs.Effects as effects
 use Rattle.opencl_values.specs.Faults.{Checked}
 
--- a parameter: a value in slots, one for each component, or an array of a space with the type of its elements, and with the slot of an offset,
--- unless it is a whole array
+-- a parameter: a value in slots, one for each component, or an array of a space with the type of its elements, and with the slot of an
+-- offset, unless it is a whole array
 pub data Taken : Type 0 where
   TakesValue : (type : ValueType) (slot : ℕ) → Taken
   TakesArray : (space : core.Space) (element : ValueType) (is_constant : Bool) (offset : Option ℕ) → Taken
@@ -28,8 +28,8 @@ pub record Text : Type 0 where
   pub standings : List Standing
   pub variables : List Variable
 
--- a function is written out for whole arrays, and once more for pointers with an offset. Where it could not be, it has the fault, which counts
--- where it is called. `stores` says whether it may store to what its parameters point to, or meets a barrier
+-- a function is written out for whole arrays, and once more for pointers with an offset. Where it could not be, it has the fault, which
+-- counts where it is called. `stores` says whether it may store to what its parameters point to, or meets a barrier
 pub record Template : Type 0 where
   pub name : List ℕ
   pub stores : Bool

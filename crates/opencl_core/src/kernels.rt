@@ -168,8 +168,8 @@ fn kernel_with<'a>(
 }
 
 /// The core and the map of names of a kernel of these work-group sizes, whose ids and sizes have a kind, where its file declares the names
-/// outside of it, and these functions stand in front of it; or its first broken rule: of its name and its return type, of its parameters, then
-/// of its statements.
+/// outside of it, and these functions stand in front of it; or its first broken rule: of its name and its return type, of its parameters,
+/// then of its statements.
 #[tactic(auto, unfolding(crate::specs::Kernels::kernel_of))]
 pub fn kernel_of<'a>(
     alloc: Global,

@@ -35,11 +35,11 @@ pub const MOST_SLOTS: usize = 512;
 /// The last number of a name whose block has not ended yet.
 const NOT_ENDED: u32 = 4_097;
 
-/// The kind of ids and sizes; the sizes of a work-group; the visible names, of which the first `around` are declared around the innermost block;
-/// the values of expressions with effects that were written out; the functions of the file, and what a `return` does; the kinds of all slots, of
-/// value parameters and then of variables; the local arrays, with the count of their elements; the kinds of the buffers; the number of the next
-/// core statement; the statements of the part that is being written; the map of names, with the statements of this part and the variables of
-/// this block.
+/// The kind of ids and sizes; the sizes of a work-group; the visible names, of which the first `around` are declared around the innermost
+/// block; the values of expressions with effects that were written out; the functions of the file, and what a `return` does; the kinds of
+/// all slots, of value parameters and then of variables; the local arrays, with the count of their elements; the kinds of the buffers; the
+/// number of the next core statement; the statements of the part that is being written; the map of names, with the statements of this part
+/// and the variables of this block.
 #[derive(Drop)]
 pub struct Room<'a> {
     pub ids: Kind,

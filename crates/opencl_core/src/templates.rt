@@ -45,8 +45,8 @@ pub struct Text {
     pub variables: Vec<Variable>,
 }
 
-/// A function by its name, and whether it may store to what its parameters point to, or meets a barrier. It is written out for whole arrays, and
-/// for pointers with an offset; where it could not be, it has the fault.
+/// A function by its name, and whether it may store to what its parameters point to, or meets a barrier. It is written out for whole
+/// arrays, and for pointers with an offset; where it could not be, it has the fault.
 #[derive(Drop)]
 pub struct Template {
     pub name: String,

@@ -30,8 +30,8 @@ call_stores hs name = stores_by_name name || may_store hs name
 abbrev pub call_touches : List Helper → (name : List ℕ) → Bool
 call_touches hs name = stores_by_name name || (reads_by_name name || is_helper hs name)
 
--- whether it has to be written out as statements: it stores, or has a call of a function of the file, or a comma. The operand of `sizeof` is
--- not evaluated (6.5.3.4p2)
+-- whether it has to be written out as statements: it stores, or has a call of a function of the file, or a comma. The operand of `sizeof`
+-- is not evaluated (6.5.3.4p2)
 abbrev mutual
   pub has_effect : List Helper → Expression → Bool
   has_effect hs (Integer s k n) = false

@@ -1,5 +1,5 @@
--- The places of operators by which what was written out before is found again. Of one sort each has a place of its own in an expression, unless
--- a macro made several of them, which all have the place of its use (C99 6.10.3).
+-- The places of operators by which what was written out before is found again. Of one sort each has a place of its own in an expression,
+-- unless a macro made several of them, which all have the place of its use (C99 6.10.3).
 use Rattle.std.specs.Prelude.{ℕ, List, [], ◌∷◌, ◌++◌, length, Bool, true, false, cond, ◌||◌, ◌&&◌, nat_eq, nat_le, not}
 use Rattle.semantics.specs.Core.{Site}
 use Rattle.texts.specs.Surface.{InfixSign, LogicalAnd, LogicalOr}

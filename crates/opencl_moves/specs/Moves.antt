@@ -1,5 +1,5 @@
--- Whether a variable is assigned to as a whole, as `p += n` and `p++` move a pointer (C99 6.5.16, 6.5.2.4 and 6.5.3.1). All is said by names
--- alone: another variable of the same name counts, too.
+-- Whether a variable is assigned to as a whole, as `p += n` and `p++` move a pointer (C99 6.5.16, 6.5.2.4 and 6.5.3.1). All is said by
+-- names alone: another variable of the same name counts, too.
 use Rattle.std.specs.Prelude.{ℕ, List, [], ◌∷◌, Bool, false, ◌||◌, Option, None, Some, bytes_eq}
 use Rattle.opencl_tree.specs.Tree.{Expression, Integer, Real, Name, Call, Index, Member, Prefix, Step, Cast, Vector, Infix, Conditional, Assign, Comma, SizeofType, SizeofOf, Expressions, nothing, also, Initial, Absent, Given, Listed, Declarator, First, FirstAbsent, FirstDeclares, FirstEvaluates, Statement, Declare, Typedef, Evaluate, If, While, Do, For, Switch, Case, Default, Break, Continue, Return, Block, Empty, Statements, none, one}
 

@@ -96,7 +96,8 @@ fn sort_letter(sort: Sort) -> &'static str {
     }
 }
 
-/// The variables with the numbers of the statements in which they are visible, the local arrays, and the statements with their last numbers.
+/// The variables with the numbers of the statements in which they are visible, the local arrays, and the statements with their last
+/// numbers.
 pub fn push_names(out: &mut String, names: &NameMap) -> Result<(), AllocError> {
     for variable in &names.variables {
         write!(

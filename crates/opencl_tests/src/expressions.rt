@@ -12,8 +12,9 @@ use std::alloc::{AllocError, Global};
 use std::test::Fail;
 use words::Kind;
 
-/// Expressions, each with its scalar and its terms, or its fault. `i` is an `int`, `u` a `uint`, `f` a `float`, `n` a `size_t`, `c` a `char`,
-/// `a` a buffer of floats, `b` one of `char`, `t` a local `int[4][8]`, `v` a `float4`, `byte` a name for `uchar`, `LAST` a constant.
+/// Expressions, each with its scalar and its terms, or its fault. `i` is an `int`, `u` a `uint`, `f` a `float`, `n` a `size_t`, `c` a
+/// `char`, `a` a buffer of floats, `b` one of `char`, `t` a local `int[4][8]`, `v` a `float4`, `byte` a name for `uchar`, `LAST` a
+/// constant.
 const EXPRESSIONS: &[(&str, &str)] = &[
     ("i + u", "Uint (+ Uint v0 v1)"),
     ("-c", "Int (- Int v4)"),

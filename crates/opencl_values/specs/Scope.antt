@@ -38,8 +38,8 @@ meaning_with m (b ∷ bs) name = meaning_with (cond (bytes_eq b.name name) (Some
 abbrev pub meaning_of : (visible : List Binding) → (name : List ℕ) → Option Meaning
 meaning_of visible name = meaning_with None visible name
 
--- the value of an expression with effects that was written out before, by its sort and its site: it is kept in variables from a slot on. All
--- tokens of a macro have one site, so a site alone tells no expressions apart
+-- the value of an expression with effects that was written out before, by its sort and its site: it is kept in variables from a slot on.
+-- All tokens of a macro have one site, so a site alone tells no expressions apart
 pub record Drawn : Type 0 where
   pub mark : Mark
   pub type : ValueType

@@ -245,15 +245,15 @@ fn function(
     Ok((head, read(alloc, body)?))
 }
 
-fn kernel_behind(
-    alloc: Global,
-    functions: &[(Header, Vec<Stmt>)],
-    parameters: &str,
-    body: &str,
-) -> Result<Result<Written, ValueError>, Fail> {
-    let declared = read(alloc, parameters)?;
-    let head = head_of(alloc, "k", Base::Void, declared)?;
-    let body = read(alloc, body)?;
+/// A kernel, the functions in front of it, and the name of one of them.
+#[derive(Drop)]
+struct Source {
+    name: String,
+    functions: Vec<(Header, Vec<Stmt>)>,
+    kernel: (Header, Vec<Stmt>),
+}
+
+fn written(alloc: Global, of: &Source) -> Result<Result<Written, ValueError>, Fail> {
     let mut counts = Vec::new(alloc);
     counts.push(LocalCount {
         name: String::from_str(alloc, "t")?,
@@ -261,19 +261,33 @@ fn kernel_behind(
     })?;
     let mut outside = Vec::new(alloc);
     outside.push(Binding {
-        name: "f",
+        name: of.name.as_str(),
         meaning: Meaning::Unread,
     })?;
     Ok(kernel_of(
         alloc,
         Kind::Size,
         outside,
-        functions,
+        &of.functions,
         [64, 1, 1],
-        &head,
+        &of.kernel.0,
         &counts,
-        &body,
+        &of.kernel.1,
     ))
+}
+
+fn kernel_behind(
+    alloc: Global,
+    functions: Vec<(Header, Vec<Stmt>)>,
+    parameters: &str,
+    body: &str,
+) -> Result<Result<Written, ValueError>, Fail> {
+    let source = Source {
+        name: String::from_str(alloc, "f")?,
+        functions,
+        kernel: function(alloc, "k", Base::Void, parameters, body)?,
+    };
+    written(alloc, &source)
 }
 
 fn kernel(
@@ -281,7 +295,7 @@ fn kernel(
     parameters: &str,
     body: &str,
 ) -> Result<Result<Written, ValueError>, Fail> {
-    kernel_behind(alloc, &[], parameters, body)
+    kernel_behind(alloc, Vec::new(alloc), parameters, body)
 }
 
 fn core_of(alloc: Global, written: &Result<Written, ValueError>) -> Result<String, Fail> {
@@ -359,7 +373,7 @@ fn calls_are_written_out(rt: HostRuntime) -> Result<(), Fail> {
     for (is_int, given, inner, parameters, body, core) in CALLING {
         let mut functions = Vec::new(alloc);
         functions.push(function(alloc, "f", base_of(*is_int), given, inner)?)?;
-        let written = kernel_behind(alloc, &functions, parameters, body)?;
+        let written = kernel_behind(alloc, functions, parameters, body)?;
         let found = core_of(alloc, &written)?;
         assert_eq!(rt; found.as_str(), *core);
     }

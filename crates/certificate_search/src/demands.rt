@@ -7,7 +7,7 @@ ghost use Rattle.plain_kernels.specs.Domains.{domain};
 use crate::progress::{Course, Watcher};
 use crate::round_table::Demand;
 use crate::stretches::{BatchSizes, Stretch, least_piece, left_behind, stretches_behind};
-use crate::used::{Ground, used_guesses};
+use crate::used::{Origins, used_guesses};
 use cut_proof::Derivation;
 use cut_search::{Answer, Memory, Point, Questions};
 use guess_walk::{Division, FormDivision, Shown, both_sides, both_sides_by, facts_of, reached};
@@ -84,11 +84,11 @@ fn is_undivided(form: &Form, modulus: u64, points: &[Point]) -> bool {
 }
 
 /// The guess that a claim is of, where it is one of those at a path's end, and whether it is the second claim of a congruence.
-fn guess_of(ground: &Ground<'_>, at: OnPath) -> Option<(u32, bool)> {
-    let tagged = ground.found.paths().get(at.path)?;
+fn guess_of(origins: &Origins<'_>, at: OnPath) -> Option<(u32, bool)> {
+    let tagged = origins.found.paths().get(at.path)?;
     let end = tagged.path.ends.first()?;
-    let to = reached(end.stop, tagged.anchor, ground.sights)?;
-    let lines = ground.table.places.get(to)?;
+    let to = reached(end.stop, tagged.anchor, origins.sights)?;
+    let lines = origins.table.places.get(to)?;
     let before = tagged.path.claims.len().checked_sub(lines.len())?;
     let place = at.item.checked_sub(before)?;
     let guess = lines.at(place)?;
@@ -96,18 +96,18 @@ fn guess_of(ground: &Ground<'_>, at: OnPath) -> Option<(u32, bool)> {
     Some((guess, is_second))
 }
 
-fn claim_at<'a>(ground: &Ground<'a>, at: OnPath) -> Option<&'a Claim> {
-    ground.found.paths().get(at.path)?.path.claims.get(at.item)
+fn claim_at<'a>(origins: &Origins<'a>, at: OnPath) -> Option<&'a Claim> {
+    origins.found.paths().get(at.path)?.path.claims.get(at.item)
 }
 
 /// The guess that an obligation is of, if it is of one.
-pub fn target_of(ground: &Ground<'_>, part: Part) -> Option<u32> {
+pub fn target_of(origins: &Origins<'_>, part: Part) -> Option<u32> {
     match part {
         Part::Claim(at) => {
-            let (guess, _) = guess_of(ground, at)?;
+            let (guess, _) = guess_of(origins, at)?;
             Some(guess)
         }
-        Part::Ends { first, about, .. } => agreement_of(ground, first, about),
+        Part::Ends { first, about, .. } => agreement_of(origins, first, about),
         Part::Accesses { .. } => None,
     }
 }
@@ -115,12 +115,12 @@ pub fn target_of(ground: &Ground<'_>, part: Part) -> Option<u32> {
 /// The guesses that a derivation uses, which refutes these facts of an obligation; none where the part is no part of the walk.
 fn support_of(
     alloc: Global,
-    ground: &Ground<'_>,
+    origins: &Origins<'_>,
     part: Part,
     facts: &[Form],
     derivation: &Derivation,
 ) -> Result<Option<Vec<u32>>, AllocError> {
-    let Some(origin) = ground.origin(part) else {
+    let Some(origin) = origins.origin(part) else {
         return Ok(None);
     };
     let used = used_guesses(alloc, &origin, facts, derivation)?;
@@ -130,14 +130,14 @@ fn support_of(
 /// A question is asked of the search; a point that answers it goes to the points.
 fn asked(
     alloc: Global,
-    ground: &Ground<'_>,
+    origins: &Origins<'_>,
     part: Part,
     facts: &[Form],
     questions: &mut Questions<'_>,
     points: &mut Vec<Point>,
 ) -> Result<Option<Vec<u32>>, AllocError> {
     match questions.ask(alloc, facts)? {
-        Answer::Proof(derivation) => support_of(alloc, ground, part, facts, &derivation),
+        Answer::Proof(derivation) => support_of(alloc, origins, part, facts, &derivation),
         Answer::Model(point) => {
             points.push(point)?;
             Ok(None)
@@ -159,16 +159,16 @@ fn joined(mut first: Vec<u32>, second: &[u32]) -> Result<Vec<u32>, AllocError> {
 /// The guesses that both sides of a congruence rest on, or of a multiple of a form.
 fn support_of_both(
     alloc: Global,
-    ground: &Ground<'_>,
+    origins: &Origins<'_>,
     at: OnPath,
     facts: &[Form],
     shown: &Shown,
 ) -> Result<Option<Vec<u32>>, AllocError> {
     let part = Part::Claim(at);
-    let Some(least) = support_of(alloc, ground, part, facts, &shown.least)? else {
+    let Some(least) = support_of(alloc, origins, part, facts, &shown.least)? else {
         return Ok(None);
     };
-    let Some(most) = support_of(alloc, ground, part, facts, &shown.most)? else {
+    let Some(most) = support_of(alloc, origins, part, facts, &shown.most)? else {
         return Ok(None);
     };
     Ok(Some(joined(least, most.as_slice())?))
@@ -177,14 +177,14 @@ fn support_of_both(
 /// A congruence, by facts without a denial.
 fn divided(
     alloc: Global,
-    ground: &Ground<'_>,
+    origins: &Origins<'_>,
     at: OnPath,
     division: Division<'_>,
     questions: &mut Questions<'_>,
     points: &mut Vec<Point>,
 ) -> Result<Option<Vec<u32>>, AllocError> {
     match both_sides(alloc, division, questions, points)? {
-        Some(shown) => support_of_both(alloc, ground, at, division.facts, &shown),
+        Some(shown) => support_of_both(alloc, origins, at, division.facts, &shown),
         None => Ok(None),
     }
 }
@@ -192,14 +192,14 @@ fn divided(
 /// A multiple of a form, by facts without a denial.
 fn divided_by(
     alloc: Global,
-    ground: &Ground<'_>,
+    origins: &Origins<'_>,
     at: OnPath,
     division: FormDivision<'_>,
     questions: &mut Questions<'_>,
     points: &mut Vec<Point>,
 ) -> Result<Option<Vec<u32>>, AllocError> {
     match both_sides_by(alloc, division, questions, points)? {
-        Some(shown) => support_of_both(alloc, ground, at, division.facts, &shown),
+        Some(shown) => support_of_both(alloc, origins, at, division.facts, &shown),
         None => Ok(None),
     }
 }
@@ -215,19 +215,19 @@ struct Target {
 /// The guesses that suffice to show a claim of a guess; none where no derivation is found, or a point refutes it.
 fn claim_support(
     alloc: Global,
-    ground: &Ground<'_>,
+    origins: &Origins<'_>,
     target: Target,
     at: OnPath,
     questions: &mut Questions<'_>,
     points: &mut Vec<Point>,
 ) -> Result<Option<Vec<u32>>, FindError>
     requires first { 0 < target.number }
-    requires last { target.number ≤ length (listed domain ground.now.found.now) }
+    requires last { target.number ≤ length (listed domain origins.now.found.now) }
 {
-    let Some(candidate) = ground.candidates.get(target.guess as usize) else {
+    let Some(candidate) = origins.candidates.get(target.guess as usize) else {
         return Ok(None);
     };
-    let Some(claim) = claim_at(ground, at) else {
+    let Some(claim) = claim_at(origins, at) else {
         return Ok(None);
     };
     match (&claim.goal, &candidate.line) {
@@ -235,12 +235,12 @@ fn claim_support(
             if is_denied(form, points.as_slice()) {
                 return Ok(None);
             }
-            let Some(facts) = facts_of(alloc, ground.found, target.number, Manner::Plainly)? else {
+            let Some(facts) = facts_of(alloc, origins.found, target.number, Manner::Plainly)? else {
                 return Ok(None);
             };
             Ok(asked(
                 alloc,
-                ground,
+                origins,
                 target.part,
                 facts.as_slice(),
                 questions,
@@ -248,7 +248,7 @@ fn claim_support(
             )?)
         }
         (Goal::Divided { form, .. }, Line::Multiple { modulus, .. }) => {
-            let Some(mut facts) = facts_of(alloc, ground.found, target.number, Manner::ByQuotient)?
+            let Some(mut facts) = facts_of(alloc, origins.found, target.number, Manner::ByQuotient)?
             else {
                 return Ok(None);
             };
@@ -256,29 +256,29 @@ fn claim_support(
             if is_undivided(form, *modulus, points.as_slice()) {
                 return Ok(None);
             }
-            let known = ground.known_multiples(alloc, at.path)?;
+            let known = origins.known_multiples(alloc, at.path)?;
             let division = Division {
                 facts: facts.as_slice(),
                 form,
                 modulus: *modulus,
                 known: known.as_slice(),
             };
-            Ok(divided(alloc, ground, at, division, questions, points)?)
+            Ok(divided(alloc, origins, at, division, questions, points)?)
         }
         (Goal::Divided { form, .. }, Line::MultipleOf { of, .. }) => {
-            let Some(mut facts) = facts_of(alloc, ground.found, target.number, Manner::ByQuotient)?
+            let Some(mut facts) = facts_of(alloc, origins.found, target.number, Manner::ByQuotient)?
             else {
                 return Ok(None);
             };
             drop(facts.pop());
-            let known = ground.known_by_form(alloc, at.path, of)?;
+            let known = origins.known_by_form(alloc, at.path, of)?;
             let division = FormDivision {
                 facts: facts.as_slice(),
                 form,
                 of,
                 known: known.as_slice(),
             };
-            Ok(divided_by(alloc, ground, at, division, questions, points)?)
+            Ok(divided_by(alloc, origins, at, division, questions, points)?)
         }
         _ => Ok(None),
     }
@@ -287,20 +287,20 @@ fn claim_support(
 /// The obligation of a claim; none where nothing is to be shown.
 fn claim_demand(
     alloc: Global,
-    ground: &Ground<'_>,
+    origins: &Origins<'_>,
     target: Target,
     at: OnPath,
     questions: &mut Questions<'_>,
     points: &mut Points,
 ) -> Result<Option<Demand>, FindError>
     requires first { 0 < target.number }
-    requires last { target.number ≤ length (listed domain ground.now.found.now) }
+    requires last { target.number ≤ length (listed domain origins.now.found.now) }
 {
-    if ground.found.is_settled(alloc, target.number)? {
+    if origins.found.is_settled(alloc, target.number)? {
         return Ok(None);
     }
     points.turn_to((at.path, at.path));
-    let support = claim_support(alloc, ground, target, at, questions, &mut points.points)?;
+    let support = claim_support(alloc, origins, target, at, questions, &mut points.points)?;
     Ok(Some(Demand {
         guess: target.guess,
         support,
@@ -308,37 +308,37 @@ fn claim_demand(
 }
 
 /// The guess that items agree on a slot at the barrier where two ends meet.
-fn agreement_of(ground: &Ground<'_>, first: OnPath, about: About) -> Option<u32> {
+fn agreement_of(origins: &Origins<'_>, first: OnPath, about: About) -> Option<u32> {
     let slot = match about {
         About::AtLeast(slot) | About::AtMost(slot) => slot,
         About::Never => return None,
     };
-    let tagged = ground.found.paths().get(first.path)?;
+    let tagged = origins.found.paths().get(first.path)?;
     let end = tagged.path.ends.get(first.item)?;
     match end.stop {
         Stop::Barrier(_) => {}
         Stop::Head { .. } | Stop::End => return None,
     }
-    let to = reached(end.stop, tagged.anchor, ground.sights)?;
-    ground.table.places.get(to)?.agreeing(slot)
+    let to = reached(end.stop, tagged.anchor, origins.sights)?;
+    origins.table.places.get(to)?.agreeing(slot)
 }
 
 /// The obligation of a guess that items agree on a variable, at two ends; none where the domain settles it.
 fn agreement_demand(
     alloc: Global,
-    ground: &Ground<'_>,
+    origins: &Origins<'_>,
     target: Target,
     questions: &mut Questions<'_>,
     points: &mut Points,
 ) -> Result<Option<Demand>, FindError>
     requires first { 0 < target.number }
-    requires last { target.number ≤ length (listed domain ground.now.found.now) }
+    requires last { target.number ≤ length (listed domain origins.now.found.now) }
 {
-    if ground.found.is_settled(alloc, target.number)? {
+    if origins.found.is_settled(alloc, target.number)? {
         return Ok(None);
     }
     let guess = target.guess;
-    let Some(facts) = facts_of(alloc, ground.found, target.number, Manner::Plainly)? else {
+    let Some(facts) = facts_of(alloc, origins.found, target.number, Manner::Plainly)? else {
         return Ok(Some(Demand {
             guess,
             support: None,
@@ -347,7 +347,7 @@ fn agreement_demand(
     let found = &mut points.points;
     let support = asked(
         alloc,
-        ground,
+        origins,
         target.part,
         facts.as_slice(),
         questions,
@@ -364,19 +364,19 @@ fn is_lacking(lacking: &[bool], guess: u32) -> bool {
 /// The obligation of a number, if it is one of a guess.
 fn demand_of(
     alloc: Global,
-    ground: &Ground<'_>,
+    origins: &Origins<'_>,
     number: usize,
     lacking: &[bool],
     questions: &mut Questions<'_>,
     points: &mut Points,
 ) -> Result<Option<Demand>, FindError>
     requires first { 0 < number }
-    requires last { number ≤ length (listed domain ground.now.found.now) }
+    requires last { number ≤ length (listed domain origins.now.found.now) }
 {
-    let part = ground.found.part(number);
+    let part = origins.found.part(number);
     match part {
         Part::Claim(at) => {
-            let Some((guess, is_second)) = guess_of(ground, at) else {
+            let Some((guess, is_second)) = guess_of(origins, at) else {
                 return Ok(None);
             };
             if is_second || is_lacking(lacking, guess) {
@@ -387,10 +387,10 @@ fn demand_of(
                 part,
                 guess,
             };
-            claim_demand(alloc, ground, target, at, questions, points)
+            claim_demand(alloc, origins, target, at, questions, points)
         }
         Part::Ends { first, about, .. } => {
-            let Some(guess) = agreement_of(ground, first, about) else {
+            let Some(guess) = agreement_of(origins, first, about) else {
                 return Ok(None);
             };
             if is_lacking(lacking, guess) {
@@ -401,7 +401,7 @@ fn demand_of(
                 part,
                 guess,
             };
-            agreement_demand(alloc, ground, target, questions, points)
+            agreement_demand(alloc, origins, target, questions, points)
         }
         Part::Accesses { .. } => Ok(None),
     }
@@ -426,7 +426,7 @@ fn note_lacking(lacking: &mut [bool], demand: &Demand) {
 /// The obligations of guesses in a stretch of all obligations, but those of guesses for which one was found before that nothing shows.
 fn demands_in(
     alloc: Global,
-    ground: &Ground<'_>,
+    origins: &Origins<'_>,
     stretch: Stretch,
     known_lacking: &[bool],
     memory: &Memory,
@@ -438,10 +438,10 @@ fn demands_in(
         of: (usize::MAX, usize::MAX),
         points: Vec::new(alloc),
     };
-    let end = stretch.end.min(ground.found.len());
+    let end = stretch.end.min(origins.found.len());
     for i in stretch.first..end {
         let flags = lacking.as_slice();
-        let Some(demand) = demand_of(alloc, ground, i + 1, flags, &mut questions, &mut points)?
+        let Some(demand) = demand_of(alloc, origins, i + 1, flags, &mut questions, &mut points)?
         else {
             continue;
         };
@@ -460,13 +460,13 @@ fn demands_in(
 pub fn demands_of<R: Threads + Sync, W: Watcher>(
     rt: &R,
     alloc: Global,
-    ground: &Ground<'_>,
+    origins: &Origins<'_>,
     course: &Course<'_, W>,
     memory: &mut Memory,
 ) -> Result<Vec<Demand>, FindError> {
     let mut demands: Vec<Demand> = Vec::new(alloc);
-    let mut lacking = vec![in alloc; false; ground.candidates.len()]?;
-    let all = stretches_behind(alloc, ground.found, 0)?;
+    let mut lacking = vec![in alloc; false; origins.candidates.len()]?;
+    let all = stretches_behind(alloc, origins.found, 0)?;
     let mut sizes = BatchSizes::new();
     let mut begun: usize = 0;
     for _ in 0..all.len() {
@@ -474,14 +474,14 @@ pub fn demands_of<R: Threads + Sync, W: Watcher>(
         if batch.is_empty() {
             break;
         }
-        course.tell(left_behind(ground.found, batch));
+        course.tell(left_behind(origins.found, batch));
         begun = begun.saturating_add(batch.len());
         let flags = lacking.as_slice();
         let known = &*memory;
         let found = batch
             .par_iter()
             .with_min_len(least_piece(batch.len(), course.workers))
-            .map(|stretch: &Stretch| demands_in(alloc, ground, *stretch, flags, known))
+            .map(|stretch: &Stretch| demands_in(alloc, origins, *stretch, flags, known))
             .collect::<Vec<Result<Demanded, FindError>>>(rt, alloc)?;
         for one in found {
             let Demanded { demands: more, own } = one?;

@@ -6,7 +6,7 @@ ghost use Rattle.plain_kernels.specs.Domains.{domain};
 
 use crate::demands::target_of;
 use crate::missing::{Missing, missing_of};
-use crate::used::{Ground, used_guesses};
+use crate::used::{Origins, used_guesses};
 use certificate::tree::{Entry, EntrySort};
 use cut_proof::Derivation;
 use cut_search::{Answer, Questions};
@@ -95,7 +95,7 @@ struct Heading {
 /// The proof of an obligation with this derivation; none where the part is not of the walk.
 fn proof_with(
     alloc: Global,
-    ground: &Ground<'_>,
+    origins: &Origins<'_>,
     heading: Heading,
     facts: &[Form],
     derivation: Derivation,
@@ -106,7 +106,7 @@ fn proof_with(
         part,
         way,
     } = heading;
-    let Some(origin) = ground.origin(part) else {
+    let Some(origin) = origins.origin(part) else {
         return Ok(None);
     };
     let used = used_guesses(alloc, &origin, facts, &derivation)?;
@@ -115,7 +115,7 @@ fn proof_with(
         about,
         way,
         derivation,
-        of: target_of(ground, part),
+        of: target_of(origins, part),
         used,
     }))
 }
@@ -123,13 +123,13 @@ fn proof_with(
 /// A proof by facts, if the search refutes them.
 fn proof_by(
     alloc: Global,
-    ground: &Ground<'_>,
+    origins: &Origins<'_>,
     heading: Heading,
     facts: &[Form],
     questions: &mut Questions<'_>,
 ) -> Result<Option<Proof>, AllocError> {
     match questions.ask(alloc, facts)? {
-        Answer::Proof(derivation) => proof_with(alloc, ground, heading, facts, derivation),
+        Answer::Proof(derivation) => proof_with(alloc, origins, heading, facts, derivation),
         Answer::Model(_) | Answer::Undecided => Ok(None),
     }
 }
@@ -137,15 +137,15 @@ fn proof_by(
 /// The proof of an obligation that is shown in a manner; none where no derivation is found, or the manner does not fit.
 fn proof_in(
     alloc: Global,
-    ground: &Ground<'_>,
+    origins: &Origins<'_>,
     number: usize,
     manner: Manner,
     questions: &mut Questions<'_>,
 ) -> Result<Option<Proof>, FindError>
     requires first { 0 < number }
-    requires last { number ≤ length (listed domain ground.now.found.now) }
+    requires last { number ≤ length (listed domain origins.now.found.now) }
 {
-    let Some(facts) = facts_of(alloc, ground.found, number, manner)? else {
+    let Some(facts) = facts_of(alloc, origins.found, number, manner)? else {
         return Ok(None);
     };
     let way = match manner {
@@ -155,11 +155,11 @@ fn proof_in(
     };
     let heading = Heading {
         number: number as u64,
-        about: missing_of(ground, number),
-        part: ground.found.part(number),
+        about: missing_of(origins, number),
+        part: origins.found.part(number),
         way,
     };
-    Ok(proof_by(alloc, ground, heading, facts.as_slice(), questions)?)
+    Ok(proof_by(alloc, origins, heading, facts.as_slice(), questions)?)
 }
 
 fn outcome_of(found: Option<Proof>) -> Outcome {
@@ -172,34 +172,34 @@ fn outcome_of(found: Option<Proof>) -> Outcome {
 /// A divisor that is positive, or one that is negative.
 fn divisor(
     alloc: Global,
-    ground: &Ground<'_>,
+    origins: &Origins<'_>,
     number: usize,
     questions: &mut Questions<'_>,
 ) -> Result<Outcome, FindError>
     requires first { 0 < number }
-    requires last { number ≤ length (listed domain ground.now.found.now) }
+    requires last { number ≤ length (listed domain origins.now.found.now) }
 {
-    let positive = proof_in(alloc, ground, number, Manner::ByPositive, questions)?;
+    let positive = proof_in(alloc, origins, number, Manner::ByPositive, questions)?;
     if positive.is_some() {
         return Ok(outcome_of(positive));
     }
-    let negative = proof_in(alloc, ground, number, Manner::ByNegative, questions)?;
+    let negative = proof_in(alloc, origins, number, Manner::ByNegative, questions)?;
     if negative.is_some() {
         return Ok(outcome_of(negative));
     }
-    let plain = proof_in(alloc, ground, number, Manner::Plainly, questions)?;
+    let plain = proof_in(alloc, origins, number, Manner::Plainly, questions)?;
     Ok(outcome_of(plain))
 }
 
 /// The line of the congruence whose first claim stands there; none where the claim is of no guess.
-fn multiple_at<'a>(ground: &Ground<'a>, at: OnPath) -> Option<&'a Line> {
-    let tagged = ground.found.paths().get(at.path)?;
+fn multiple_at<'a>(origins: &Origins<'a>, at: OnPath) -> Option<&'a Line> {
+    let tagged = origins.found.paths().get(at.path)?;
     let end = tagged.path.ends.first()?;
-    let to = reached(end.stop, tagged.anchor, ground.sights)?;
-    let lines = ground.table.places.get(to)?;
+    let to = reached(end.stop, tagged.anchor, origins.sights)?;
+    let lines = origins.table.places.get(to)?;
     let before = tagged.path.claims.len().checked_sub(lines.len())?;
     let guess = lines.at(at.item.checked_sub(before)?)?;
-    Some(&ground.candidates.get(guess as usize)?.line)
+    Some(&origins.candidates.get(guess as usize)?.line)
 }
 
 /// A claim on a path, by its obligation's number, and what it is of.
@@ -225,7 +225,7 @@ impl Numbered {
 /// The two proofs of a congruence, which name one quotient.
 fn both_proofs(
     alloc: Global,
-    ground: &Ground<'_>,
+    origins: &Origins<'_>,
     claim: Numbered,
     facts: &[Form],
     shown: Shown,
@@ -236,9 +236,9 @@ fn both_proofs(
         most,
     } = shown;
     let heading = claim.heading(0, copied(alloc, &quotient)?);
-    let least = proof_with(alloc, ground, heading, facts, least)?;
+    let least = proof_with(alloc, origins, heading, facts, least)?;
     let heading = claim.heading(1, quotient);
-    let most = proof_with(alloc, ground, heading, facts, most)?;
+    let most = proof_with(alloc, origins, heading, facts, most)?;
     match (least, most) {
         (Some(least), Some(most)) => Ok(Outcome::Two(least, most)),
         _ => Ok(Outcome::Unshown),
@@ -248,19 +248,19 @@ fn both_proofs(
 /// Derivations that a form is what a line of the place reached says of it: a number divides it, or it is a multiple of a form.
 fn both_shown(
     alloc: Global,
-    ground: &Ground<'_>,
+    origins: &Origins<'_>,
     at: OnPath,
     facts: &[Form],
     questions: &mut Questions<'_>,
 ) -> Result<Option<Shown>, AllocError> {
-    let (Some(line), Some(form)) = (multiple_at(ground, at), divided_form(alloc, ground, at)?)
+    let (Some(line), Some(form)) = (multiple_at(origins, at), divided_form(alloc, origins, at)?)
     else {
         return Ok(None);
     };
     let mut points = Vec::new(alloc);
     match line {
         Line::Multiple { modulus, .. } => {
-            let known = ground.known_multiples(alloc, at.path)?;
+            let known = origins.known_multiples(alloc, at.path)?;
             let division = Division {
                 facts,
                 form: &form,
@@ -270,7 +270,7 @@ fn both_shown(
             both_sides(alloc, division, questions, &mut points)
         }
         Line::MultipleOf { of, .. } => {
-            let known = ground.known_by_form(alloc, at.path, of)?;
+            let known = origins.known_by_form(alloc, at.path, of)?;
             let division = FormDivision {
                 facts,
                 form: &form,
@@ -286,19 +286,19 @@ fn both_shown(
 /// The two proofs of a congruence, or of a multiple of a form, found at its first claim.
 fn congruence(
     alloc: Global,
-    ground: &Ground<'_>,
+    origins: &Origins<'_>,
     claim: Numbered,
     questions: &mut Questions<'_>,
 ) -> Result<Outcome, FindError>
     requires first { 0 < claim.number }
-    requires last { claim.number ≤ length (listed domain ground.now.found.now) }
+    requires last { claim.number ≤ length (listed domain origins.now.found.now) }
 {
-    let Some(mut facts) = facts_of(alloc, ground.found, claim.number, Manner::ByQuotient)? else {
+    let Some(mut facts) = facts_of(alloc, origins.found, claim.number, Manner::ByQuotient)? else {
         return Ok(Outcome::Unshown);
     };
     drop(facts.pop());
-    match both_shown(alloc, ground, claim.at, facts.as_slice(), questions)? {
-        Some(shown) => Ok(both_proofs(alloc, ground, claim, facts.as_slice(), shown)?),
+    match both_shown(alloc, origins, claim.at, facts.as_slice(), questions)? {
+        Some(shown) => Ok(both_proofs(alloc, origins, claim, facts.as_slice(), shown)?),
         None => Ok(Outcome::Unshown),
     }
 }
@@ -306,10 +306,10 @@ fn congruence(
 /// The form that is to be a multiple, of the first claim of a congruence; none of another claim.
 fn divided_form(
     alloc: Global,
-    ground: &Ground<'_>,
+    origins: &Origins<'_>,
     at: OnPath,
 ) -> Result<Option<Form>, AllocError> {
-    let Some(tagged) = ground.found.paths().get(at.path) else {
+    let Some(tagged) = origins.found.paths().get(at.path) else {
         return Ok(None);
     };
     let Some(claim) = tagged.path.claims.get(at.item) else {
@@ -324,25 +324,25 @@ fn divided_form(
 /// The proofs of an obligation which the domain does not settle.
 fn shown(
     alloc: Global,
-    ground: &Ground<'_>,
+    origins: &Origins<'_>,
     number: usize,
     questions: &mut Questions<'_>,
 ) -> Result<Outcome, FindError>
     requires first { 0 < number }
-    requires last { number ≤ length (listed domain ground.now.found.now) }
+    requires last { number ≤ length (listed domain origins.now.found.now) }
 {
-    let part = ground.found.part(number);
-    match (ground.found.sort(number), part) {
-        (Sort::OfDivisor, _) => divisor(alloc, ground, number, questions),
+    let part = origins.found.part(number);
+    match (origins.found.sort(number), part) {
+        (Sort::OfDivisor, _) => divisor(alloc, origins, number, questions),
         (Sort::OfCongruence, Part::Claim(at)) => {
-            if ground.found.is_second_claim(number) {
+            if origins.found.is_second_claim(number) {
                 return Ok(Outcome::Nothing);
             }
-            let about = missing_of(ground, number);
-            congruence(alloc, ground, Numbered { number, at, about }, questions)
+            let about = missing_of(origins, number);
+            congruence(alloc, origins, Numbered { number, at, about }, questions)
         }
         _ => {
-            let found = proof_in(alloc, ground, number, Manner::Plainly, questions)?;
+            let found = proof_in(alloc, origins, number, Manner::Plainly, questions)?;
             Ok(outcome_of(found))
         }
     }
@@ -351,18 +351,18 @@ fn shown(
 /// The proofs of an obligation, given by its number; none needed where the domain settles it or it may be left out.
 pub fn proofs_of(
     alloc: Global,
-    ground: &Ground<'_>,
+    origins: &Origins<'_>,
     number: usize,
     questions: &mut Questions<'_>,
 ) -> Result<Outcome, FindError>
     requires first { 0 < number }
-    requires last { number ≤ length (listed domain ground.now.found.now) }
+    requires last { number ≤ length (listed domain origins.now.found.now) }
 {
-    if ground.found.is_settled(alloc, number)? {
+    if origins.found.is_settled(alloc, number)? {
         return Ok(Outcome::Nothing);
     }
-    if !ground.found.is_needed(number) {
+    if !origins.found.is_needed(number) {
         return Ok(Outcome::Nothing);
     }
-    shown(alloc, ground, number, questions)
+    shown(alloc, origins, number, questions)
 }

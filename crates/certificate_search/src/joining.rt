@@ -4,7 +4,7 @@ use crate::entries::{Outcome, Proof, proofs_of};
 use crate::missing::{Mark, Missing, missing_of};
 use crate::progress::{Course, Watcher};
 use crate::stretches::{BatchSizes, Stretch, least_piece, left_behind, stretches_behind};
-use crate::used::Ground;
+use crate::used::Origins;
 use certificate::Certificate;
 use certificate::tree::Entry;
 use cut_search::{Memory, Questions};
@@ -131,7 +131,7 @@ struct Proved {
 /// The proofs of a stretch of obligations, and what no derivation shows, but for what is like one that nothing showed before.
 fn proved_in(
     alloc: Global,
-    ground: &Ground<'_>,
+    origins: &Origins<'_>,
     stretch: Stretch,
     missed: &[Missing],
     memory: &Memory,
@@ -139,14 +139,14 @@ fn proved_in(
     let mut questions = Questions::over(alloc, memory)?;
     let mut proofs: Vec<Proof> = Vec::new(alloc);
     let mut missing: Vec<Missing> = Vec::new(alloc);
-    let end = stretch.end.min(ground.found.len());
+    let end = stretch.end.min(origins.found.len());
     for i in stretch.first..end {
         let number = i + 1;
-        let about = missing_of(ground, number);
+        let about = missing_of(origins, number);
         if is_among(missed, about) || is_among(missing.as_slice(), about) {
             continue;
         }
-        match proofs_of(alloc, ground, number, &mut questions)? {
+        match proofs_of(alloc, origins, number, &mut questions)? {
             Outcome::Nothing => {}
             Outcome::One(proof) => proofs.push(proof)?,
             Outcome::Two(first, second) => {
@@ -169,11 +169,11 @@ fn add_entries<R: Threads + Sync, W: Watcher>(
     rt: &R,
     alloc: Global,
     plan: &Plan<'_, W>,
-    ground: &Ground<'_>,
+    origins: &Origins<'_>,
     assembled: &mut Assembled,
     memory: &mut Memory,
 ) -> Result<(), FindError> {
-    let all = stretches_behind(alloc, ground.found, assembled.seen)?;
+    let all = stretches_behind(alloc, origins.found, assembled.seen)?;
     let mut sizes = BatchSizes::new();
     let mut begun: usize = 0;
     for _ in 0..all.len() {
@@ -181,14 +181,14 @@ fn add_entries<R: Threads + Sync, W: Watcher>(
         if batch.is_empty() || assembled.missing.len() >= MISSED {
             break;
         }
-        plan.course.tell(left_behind(ground.found, batch));
+        plan.course.tell(left_behind(origins.found, batch));
         begun = begun.saturating_add(batch.len());
         let missed = assembled.missing.as_slice();
         let known = &*memory;
         let found = batch
             .par_iter()
             .with_min_len(least_piece(batch.len(), plan.course.workers))
-            .map(|stretch: &Stretch| proved_in(alloc, ground, *stretch, missed, known))
+            .map(|stretch: &Stretch| proved_in(alloc, origins, *stretch, missed, known))
             .collect::<Vec<Result<Proved, FindError>>>(rt, alloc)?;
         for one in found {
             let Proved {
@@ -200,7 +200,7 @@ fn add_entries<R: Threads + Sync, W: Watcher>(
             assembled.take(alloc, plan.names, proofs, missing)?;
         }
     }
-    assembled.seen = ground.found.len();
+    assembled.seen = origins.found.len();
     Ok(())
 }
 
@@ -217,7 +217,7 @@ fn add_of_walk<R: Threads + Sync, W: Watcher>(
     let begun = begun_of(alloc, &plan.subject, &walked.notes, plan.sights)?;
     let table = LineTable::of(alloc, candidates, plan.sights)?;
     let places = places_of_paths(alloc, walked.found.paths())?;
-    let ground = Ground {
+    let origins = Origins {
         found: &walked.found,
         sights: plan.sights,
         begun: begun.as_slice(),
@@ -225,7 +225,7 @@ fn add_of_walk<R: Threads + Sync, W: Watcher>(
         table: &table,
         candidates,
     };
-    add_entries(rt, alloc, plan, &ground, assembled, memory)
+    add_entries(rt, alloc, plan, &origins, assembled, memory)
 }
 
 /// The certificate of guesses and rankings without entries; none where they have no text.

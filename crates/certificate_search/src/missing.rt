@@ -4,7 +4,7 @@ ghost use Rattle.std.specs.Prelude.{◌≤◌, ◌<◌, length};
 ghost use Rattle.two_thread.specs.Listed.{listed};
 ghost use Rattle.plain_kernels.specs.Domains.{domain};
 
-use crate::used::Ground;
+use crate::used::Origins;
 use core_code::tree::Site;
 use path_steps::{Sort, Spot, Stop};
 use two_thread::{OnPath, Part};
@@ -71,8 +71,8 @@ fn claimed(sort: Sort, spot: Spot) -> Mark {
 }
 
 /// The barrier, the loop or the kernel's end at which a path stops.
-fn stopped(ground: &Ground<'_>, at: OnPath) -> Mark {
-    let Some(tagged) = ground.found.paths().get(at.path) else {
+fn stopped(origins: &Origins<'_>, at: OnPath) -> Mark {
+    let Some(tagged) = origins.found.paths().get(at.path) else {
         return Mark::End;
     };
     let Some(end) = tagged.path.ends.get(at.item) else {
@@ -86,8 +86,8 @@ fn stopped(ground: &Ground<'_>, at: OnPath) -> Mark {
 }
 
 /// The site of an access, as a store or a load.
-fn accessed(ground: &Ground<'_>, at: OnPath) -> Mark {
-    let Some(tagged) = ground.found.paths().get(at.path) else {
+fn accessed(origins: &Origins<'_>, at: OnPath) -> Mark {
+    let Some(tagged) = origins.found.paths().get(at.path) else {
         return Mark::End;
     };
     let Some(access) = tagged.path.accesses.get(at.item) else {
@@ -102,26 +102,26 @@ fn accessed(ground: &Ground<'_>, at: OnPath) -> Mark {
 }
 
 /// The sort of the obligation of this number, and the one or two parts of the kernel that it is about.
-pub fn missing_of(ground: &Ground<'_>, number: usize) -> Missing
+pub fn missing_of(origins: &Origins<'_>, number: usize) -> Missing
     requires first { 0 < number }
-    requires last { number ≤ length (listed domain ground.now.found.now) }
+    requires last { number ≤ length (listed domain origins.now.found.now) }
 {
-    let sort = ground.found.sort(number);
-    match ground.found.part(number) {
+    let sort = origins.found.sort(number);
+    match origins.found.part(number) {
         Part::Claim(_) => Missing {
             sort,
-            first: claimed(sort, ground.found.spot(number)),
+            first: claimed(sort, origins.found.spot(number)),
             second: None,
         },
         Part::Ends { first, second, .. } => Missing {
             sort,
-            first: stopped(ground, first),
-            second: Some(stopped(ground, second)),
+            first: stopped(origins, first),
+            second: Some(stopped(origins, second)),
         },
         Part::Accesses { first, second } => Missing {
             sort,
-            first: accessed(ground, first),
-            second: Some(accessed(ground, second)),
+            first: accessed(origins, first),
+            second: Some(accessed(origins, second)),
         },
     }
 }

@@ -3,7 +3,7 @@
 use crate::demands::demands_of;
 use crate::progress::{Course, Watcher};
 use crate::round_table::{BoardError, Demand, greatest};
-use crate::used::Ground;
+use crate::used::Origins;
 use cut_search::Memory;
 use guess_walk::{
     Extent, Limits, LineTable, Names, Request, Subject, Trust, Walked, begun_of, certificate_of,
@@ -165,7 +165,7 @@ fn demands_in<R: Threads + Sync, W: Watcher>(
     let begun = begun_of(alloc, &rounds.subject, &walked.notes, rounds.sights)?;
     let table = LineTable::of(alloc, candidates, rounds.sights)?;
     let places = places_of_paths(alloc, walked.found.paths())?;
-    let ground = Ground {
+    let origins = Origins {
         found: &walked.found,
         sights: rounds.sights,
         begun: begun.as_slice(),
@@ -174,7 +174,7 @@ fn demands_in<R: Threads + Sync, W: Watcher>(
         candidates,
     };
     let course = rounds.course.in_round(number);
-    Ok(demands_of(rt, alloc, &ground, &course, memory)?)
+    Ok(demands_of(rt, alloc, &origins, &course, memory)?)
 }
 
 /// A round by its number, with its guesses and the walk with them.

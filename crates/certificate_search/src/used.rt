@@ -113,7 +113,7 @@ pub fn used_guesses(
 
 /// A walk's obligations and places, how its paths begin, and the place and the guesses of each path.
 #[derive(Clone, Copy)]
-pub struct Ground<'a> {
+pub struct Origins<'a> {
     pub found: &'a Obligations<Elements>,
     pub sights: &'a [Sight],
     pub begun: &'a [Begun],
@@ -122,7 +122,7 @@ pub struct Ground<'a> {
     pub candidates: &'a [Candidate],
 }
 
-impl<'a> Ground<'a> {
+impl<'a> Origins<'a> {
     /// The facts of an item on a path, so many of which it knows.
     fn share(&self, path: usize, count: usize) -> Option<Share<'a>> {
         let place = *self.places.get(path)?;

@@ -1,5 +1,5 @@
 -- Ends of which none is at a barrier.
-use Rattle.std.proofs.Common.{◌≡◌, List, [], ◌∷◌, ◌++◌, cond, Bool, true, false, ◌&&◌, refl, sym, ap, ◌∙◌}
+use Rattle.std.proofs.Common.{◌≡◌, List, [], ◌∷◌, ◌++◌, cond, Bool, true, false, ◌&&◌, refl, ap, ◌∙◌}
 use Rattle.std.proofs.lemmas.Bool.{and_parts}
 use Rattle.arrivals.specs.Shown as shown
 use Rattle.arrivals.specs.Shown.{same_turns}
@@ -50,14 +50,3 @@ final_both (u ∷ us) vs = ap (λ b. no_barrier u.it.arrived.stop && b) (final_b
     apart : (a b c : Bool) → (a && (b && c)) ≡ ((a && b) && c)
     apart true b c = refl
     apart false b c = refl
-
-pub final_behind : {E : Type 0} (us vs ws : List (Of (Ended E))) (b : Bool) → all_final us ≡ true → b ≡ all_final ws → ws ≡ vs → b ≡ all_final (us ++ vs)
-final_behind us vs ws b h e q = e ∙ ap all_final q ∙ sym (final_both us vs ∙ ap (λ x. x && all_final vs) h)
-
-pub final_more : {E : Type 0} (all one : Bool) (xs us ys : List (Of (Ended E))) (whole : Bool) → xs ≡ us ++ ys → one ≡ all_final us → (all && all_final xs) ≡ whole → ((all && one) && all_final ys) ≡ whole
-final_more all one xs us ys whole e q h =
-    sym (regroup all one (all_final ys)) ∙ ap (λ b. all && b) (ap (λ b. b && all_final ys) q ∙ sym (final_both us ys) ∙ sym (ap all_final e)) ∙ h
-  where
-    regroup : (a b c : Bool) → (a && (b && c)) ≡ ((a && b) && c)
-    regroup true b c = refl
-    regroup false b c = refl

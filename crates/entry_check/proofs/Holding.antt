@@ -123,34 +123,6 @@ each_foreign sizes c b a s u (v ∷ vs) h =
     ap (λ l. l ++ with_each sizes c b a s u vs) (where_not (conflict a u v && may_meet b s u.anchor v.anchor) (all_orders sizes c s b u v) (not_both (is_array a u.it.target) (is_array a v.it.target && (u.it.target.is_store || v.it.target.is_store)) (may_meet b s u.anchor v.anchor) h))
     ∙ each_foreign sizes c b a s u vs h
 
--- pairs with what stands on the path that was put last, and with what is left behind it
-module _ {E : Type 0} (old new : List (Tagged E)) (p : Tagged E) (i own : ℕ) (put : new ≡ old ++ p ∷ []) where
-  pub ends_behind : (n : Notes) (u : Of (Ended E)) (left left' : List (Of (Ended E))) → own ≡ length (all_ends old) → i < length (all_ends old) → u ≡ nth_end (all_ends old) i → left ≡ ends_seen p ++ left' → meet_each n u left ≡ meet_each n (nth_end (all_ends new) i) (drop own (all_ends new)) ++ meet_each n u left'
-  ends_behind n u left left' l h q e =
-      let a : all_ends new ≡ all_ends old ++ ends_seen p = ap all_ends put ∙ last ends_seen old p in
-      let d : drop own (all_ends new) ≡ ends_seen p = seam (all_ends old) (ends_seen p) (all_ends new) own a l in
-      let w : nth_end (all_ends new) i ≡ u = in_first (all_ends old) (ends_seen p) (all_ends new) i no_end a h ∙ sym q in
-      ap (meet_each n u) e ∙ each_both n u (ends_seen p) left' ∙ ap (λ l. l ++ meet_each n u left') (sym (λ j. meet_each n (w j) (d j)))
-
-  pub accesses_behind : (sizes : Three ℕ) (c : Conditions) (b : Bool) (a : Array) (s : Scope) (u : Of (Access E)) (left left' : List (Of (Access E))) → own ≡ length (all_accesses old) → i < length (all_accesses old) → u ≡ nth_access (all_accesses old) i → left ≡ accesses_seen p ++ left' → with_each sizes c b a s u left ≡ with_each sizes c b a s (nth_access (all_accesses new) i) (drop own (all_accesses new)) ++ with_each sizes c b a s u left'
-  accesses_behind sizes c b a s u left left' l h q e =
-      let m : all_accesses new ≡ all_accesses old ++ accesses_seen p = ap all_accesses put ∙ last accesses_seen old p in
-      let d : drop own (all_accesses new) ≡ accesses_seen p = seam (all_accesses old) (accesses_seen p) (all_accesses new) own m l in
-      let w : nth_access (all_accesses new) i ≡ u = in_first (all_accesses old) (accesses_seen p) (all_accesses new) i no_access m h ∙ sym q in
-      ap (with_each sizes c b a s u) e ∙ with_both sizes c b a s u (accesses_seen p) left' ∙ ap (λ l. l ++ with_each sizes c b a s u left') (sym (λ j. with_each sizes c b a s (w j) (d j)))
-
-  pub still_end : i < length (all_ends old) → i < length (all_ends new)
-  still_end h =
-      let a = ap length (ap all_ends put ∙ last ends_seen old p) in
-      let b = length-append (all_ends old) (ends_seen p) in
-      omega (arith, h, a, b)
-
-  pub still_access : i < length (all_accesses old) → i < length (all_accesses new)
-  still_access h =
-      let a = ap length (ap all_accesses put ∙ last accesses_seen old p) in
-      let b = length-append (all_accesses old) (accesses_seen p) in
-      omega (arith, h, a, b)
-
 -- an array's pairs, scope by scope
 module _ {E : Type 0} (sizes : Three ℕ) (c : Conditions) (b : Bool) (us : List (Of (Access E))) (n : ℕ) where
   pub of_begins : (sp : Space) → (more : List (Crossing E)) × (crossings_of sizes c (λ _. b) us sp n ≡ crossings_in sizes c b (array sp n) Within us ++ more)

@@ -14,3 +14,4 @@ pub mod Assembling
 pub mod Concluding
 pub mod Lone
 pub mod Final
+pub mod Pairing

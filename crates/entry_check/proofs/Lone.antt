@@ -101,9 +101,6 @@ module _ {E : Type 0} (t : Terrain E) (s : Sought) where
       apart true b c = refl
       apart false b c = refl
 
-  pub lone_behind : (us vs ws : List (Of (Access E))) (b : Bool) → all_lone t s us ≡ true → b ≡ all_lone t s ws → ws ≡ vs → b ≡ all_lone t s (us ++ vs)
-  lone_behind us vs ws b h e q = e ∙ ap (all_lone t s) q ∙ sym (lone_both us vs ∙ ap (λ x. x && all_lone t s vs) h)
-
   pub lone_next : (us : List (Of (Access E))) (i : ℕ) (whole : Bool) → i < length us → lone t s (nth_access us i) ≡ true → all_lone t s (drop i us) ≡ whole → all_lone t s (drop (i + 1) us) ≡ whole
   lone_next us i whole h l e = sym (true_and (lone t s (nth_access us i)) (all_lone t s (drop (i + 1) us)) l) ∙ sym (ap (all_lone t s) (next_at us i no_access h)) ∙ e
     where
@@ -117,11 +114,3 @@ module _ {E : Type 0} (t : Terrain E) (s : Sought) where
       false_and : (a b : Bool) → a ≡ false → (a && b) ≡ false
       false_and true b x = absurd cc
       false_and false b x = refl
-
-pub lone_more : {E : Type 0} (t : Terrain E) (s : Sought) (all one : Bool) (xs us ys : List (Of (Access E))) (whole : Bool) → xs ≡ us ++ ys → one ≡ all_lone t s us → (all && all_lone t s xs) ≡ whole → ((all && one) && all_lone t s ys) ≡ whole
-lone_more t s all one xs us ys whole e q h =
-    sym (regroup all one (all_lone t s ys)) ∙ ap (λ b. all && b) (ap (λ b. b && all_lone t s ys) q ∙ sym (lone_both t s us ys) ∙ sym (ap (all_lone t s) e)) ∙ h
-  where
-    regroup : (a b c : Bool) → (a && (b && c)) ≡ ((a && b) && c)
-    regroup true b c = refl
-    regroup false b c = refl

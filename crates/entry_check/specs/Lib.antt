@@ -7,3 +7,4 @@ pub mod Hand
 pub mod Tallies
 pub mod Pairs
 pub mod Held
+pub mod Rows

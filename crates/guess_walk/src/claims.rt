@@ -1,12 +1,24 @@
 //! The claims of a kernel's places, found again and again where only the flags of some change.
 
+ghost use Rattle.std.specs.Prelude.{◌≡◌, true};
+ghost use Rattle.core_code.specs.View.{kernel as core_seen};
+ghost use Rattle.facts.specs.Launching.{are_sizes};
+ghost use Rattle.obligations.specs.View.{seen};
+ghost use Rattle.path_steps.specs.View.{setting as setting_seen};
+ghost use Rattle.plain_kernels.specs.Domains.{domain};
+ghost use Rattle.walk.specs.Cursors.{IsWalkable};
+ghost use Rattle.walk.specs.Owned.{AllAreOwn};
+
+use core_code::tree::Core;
 use domain::Elements;
+use obligations::Notes;
+use path_steps::Setting;
 use places::Place;
 use rayon::prelude::*;
 use std::alloc::{AllocError, Global};
 use std::thread::Threads;
 use two_thread::{Obligations, OwnPath};
-use walk::{FindError, Ground, PlacePaths};
+use walk::{FindError, PlacePaths, Terrain, paths_of};
 
 /// Where a place's claims stand: behind how many others, how many stand behind the last of them, and how many paths they are of.
 #[derive(Clone, Copy)]
@@ -182,10 +194,19 @@ fn fitting_of(
 }
 
 /// A place that is walked ahead.
-fn run(ground: &Ground<'_, Elements>, places: &[Place<'_>], errand: Errand) -> Ahead {
+fn run(
+    setting: &Setting<Elements>,
+    core: &Core,
+    notes: &Notes,
+    places: &[Place<'_>],
+    errand: Errand,
+) -> Ahead
+    requires sizes { are_sizes (core_seen core.now).sizes ≡ true }
+    requires own { AllAreOwn domain (setting_seen domain setting.now) (core_seen core.now) (seen notes.now setting.now.entries.items) }
+{
     let Errand { place, claims } = errand;
     let found = match places.get(place) {
-        Some(one) => ground.paths(one, claims),
+        Some(one) => paths_of(setting, core, notes, one, claims),
         None => Err(FindError::from(AllocError)),
     };
     Ahead {
@@ -222,12 +243,13 @@ fn errands_of(
 /// The paths of all places, with what was found before and what was found ahead, which stands in the order of the places.
 fn put_together(
     alloc: Global,
-    ground: &Ground<'_, Elements>,
-    places: &[Place<'_>],
+    terrain: &Terrain<'_, Elements>,
     before: Before,
     ahead: Vec<Ahead>,
-) -> Result<SoFar, FindError> {
-    let makes_none = before.spans.is_empty() && !ground.flags().contains(&false);
+) -> Result<SoFar, FindError>
+    requires { IsWalkable domain terrain.now }
+{
+    let makes_none = before.spans.is_empty() && !terrain.flags().contains(&false);
     let mut before = before;
     let mut ahead = ahead;
     ahead.reverse();
@@ -236,10 +258,10 @@ fn put_together(
         spans: Vec::new(alloc),
         claims: 0,
     };
-    for i in 0..places.len() {
+    for i in 0..terrain.places.len() {
         let again = before.next_paths(alloc, i)?;
         let own = next_of(&mut ahead, i);
-        if let Some(after) = before.after(i, so_far.claims, ground.flags()) {
+        if let Some(after) = before.after(i, so_far.claims, terrain.flags()) {
             so_far.add(after, again)?;
             continue;
         }
@@ -247,7 +269,7 @@ fn put_together(
             so_far.add(after, paths)?;
             continue;
         }
-        let PlacePaths { after, paths } = ground.paths(&places[i], so_far.claims)?;
+        let PlacePaths { after, paths } = terrain.paths(&terrain.places[i], so_far.claims)?;
         so_far.add(after, paths)?;
     }
     Ok(so_far)
@@ -261,20 +283,52 @@ fn next_of(ahead: &mut Vec<Ahead>, place: usize) -> Option<Ahead> {
     }
 }
 
-/// Places that are walked side by side, by so many workers at most.
+/// Places that are walked side by side, by so many workers at most. What the workers share are the parts of a terrain.
 fn walk_ahead<R: Threads + Sync>(
     rt: &R,
     alloc: Global,
     workers: u32,
-    ground: &Ground<'_, Elements>,
+    setting: &Setting<Elements>,
+    core: &Core,
+    notes: &Notes,
     places: &[Place<'_>],
     errands: &[Errand],
-) -> Result<Vec<Ahead>, AllocError> {
+) -> Result<Vec<Ahead>, AllocError>
+    requires sizes { are_sizes (core_seen core.now).sizes ≡ true }
+    requires own { AllAreOwn domain (setting_seen domain setting.now) (core_seen core.now) (seen notes.now setting.now.entries.items) }
+{
     errands
         .par_iter()
         .with_min_len(least_piece(errands.len(), workers))
-        .map(|errand: &Errand| run(ground, places, *errand))
+        .map(
+            |errand: &Errand| -> Ahead
+                requires sizes { are_sizes (core_seen core.now).sizes ≡ true }
+                requires own { AllAreOwn domain (setting_seen domain setting.now) (core_seen core.now) (seen notes.now setting.now.entries.items) }
+            { run(setting, core, notes, places, *errand) },
+        )
         .collect::<Vec<Ahead>>(rt, alloc)
+}
+
+/// The claims of places that are walked side by side.
+fn ahead_on<R: Threads + Sync>(
+    rt: &R,
+    alloc: Global,
+    workers: u32,
+    terrain: &Terrain<'_, Elements>,
+    errands: &[Errand],
+) -> Result<Vec<Ahead>, AllocError>
+    requires { IsWalkable domain terrain.now }
+{
+    walk_ahead(
+        rt,
+        alloc,
+        workers,
+        &terrain.setting,
+        terrain.core,
+        terrain.notes,
+        terrain.places,
+        errands,
+    )
 }
 
 /// The claims alone of a kernel's places: what the walks of a search ask for, of which many are made. Pairs of ends and of accesses can be
@@ -286,15 +340,16 @@ pub fn find_claims<R: Threads + Sync>(
     rt: &R,
     alloc: Global,
     workers: u32,
-    ground: Ground<'_, Elements>,
-    places: &[Place<'_>],
+    terrain: Terrain<'_, Elements>,
     before: Option<Claims>,
-) -> Result<Claims, FindError> {
+) -> Result<Claims, FindError>
+    requires walkable { IsWalkable domain terrain }
+{
     let before = Before::of(alloc, before)?;
-    let errands = errands_of(alloc, &before, places.len(), ground.flags())?;
-    let ahead = walk_ahead(rt, alloc, workers, &ground, places, errands.as_slice())?;
-    let SoFar { paths, spans, .. } = put_together(alloc, &ground, places, before, ahead)?;
-    let (found, flags) = ground.claims(alloc, paths)?;
+    let errands = errands_of(alloc, &before, terrain.places.len(), terrain.flags())?;
+    let ahead = ahead_on(rt, alloc, workers, &terrain, errands.as_slice())?;
+    let SoFar { paths, spans, .. } = put_together(alloc, &terrain, before, ahead)?;
+    let (found, flags) = terrain.claims(alloc, paths)?;
     Ok(Claims {
         found,
         spans,

@@ -19,7 +19,7 @@ use obligations::Notes;
 use places::{Place, PlaceError, places};
 use std::alloc::{AllocError, Global};
 use std::thread::Threads;
-use walk::{FindError, Ground};
+use walk::{FindError, terrain_of};
 
 /// A kernel that has places, and the notes that a certificate makes of them.
 #[derive(Drop)]
@@ -59,6 +59,23 @@ impl<'a> Noted<'a> {
         }
     }
 
+    /// The claims of a walk over the kernel's places.
+    fn claims_on<R: Threads + Sync>(
+        &self,
+        rt: &R,
+        alloc: Global,
+        workers: u32,
+        conditions: &Conditions,
+        places: &[Place<'_>],
+        entries: Vec<bool>,
+        before: Option<Claims>,
+    ) -> Result<Claims, FindError>
+        requires { map place_seen places.now ≡ meant.places (core_seen self.now.core.now).body }
+    {
+        let terrain = terrain_of(alloc, self.core, conditions, &self.notes, places, entries)?;
+        find_claims(rt, alloc, workers, terrain, before)
+    }
+
     /// The claims of a walk in which the claims that are flagged have an entry, by so many workers at most; what was found before with
     /// other flags spares work.
     pub fn claims<R: Threads + Sync>(
@@ -75,8 +92,7 @@ impl<'a> Noted<'a> {
             return Err(FindError::from(AllocError));
         };
         let places = places.as_slice();
-        let ground = Ground::of(alloc, self.core, conditions, &self.notes, places, entries)?;
-        find_claims(rt, alloc, workers, ground, places, before)
+        self.claims_on(rt, alloc, workers, conditions, places, entries, before)
     }
 
     /// The notes with the claims of a walk.

@@ -12,7 +12,6 @@ pub mod Copied
 pub mod Small
 pub mod Growing
 pub mod Fencing
-pub mod FirstPath
 pub mod Turns
 pub mod MeetingLists
 pub mod AllMeetings

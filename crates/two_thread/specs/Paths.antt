@@ -76,8 +76,3 @@ accesses_of (w ∷ ws) = map (of_walked w) (joined (map accesses_on w.paths.item
 abbrev pub ends_of : {E : Type 0} → List (Walked E) → List (Of (Ended E))
 ends_of [] = []
 ends_of (w ∷ ws) = map (of_walked w) (joined (map ends_on w.paths.items)) ++ ends_of ws
-
--- the first path alone, if there is one
-abbrev pub first_alone : {E : Type 0} → List (Tagged E) → List (Tagged E)
-first_alone [] = []
-first_alone (t ∷ ts) = t ∷ []

@@ -28,7 +28,7 @@ impl<D: Copy> Met<D> {
     ghost use Rattle.std.specs.Prelude.{◌≡◌, IfOk, IfErr, length, true};
     ghost use Rattle.facts.specs.Refusals.{IsMemory};
     ghost use Rattle.obligations.specs.Owning.{all_own_accesses, all_own_ends};
-    ghost use Rattle.two_thread.specs.Paths.{all_accesses, all_ends, first_alone};
+    ghost use Rattle.two_thread.specs.Paths.{all_accesses, all_ends};
     ghost use Rattle.two_thread.specs.View.{met_claims, met_accesses, met_ends};
 
     /// The claims, accesses and ends of these paths, whose accesses and ends have no symbols of the second item.
@@ -81,25 +81,5 @@ impl<D: Copy> Met<D> {
         ensures seen { result ≡ length (met_ends self.now) }
     {
         self.ends.len()
-    }
-
-    /// How many accesses stand on the first path.
-    pub fn first_access_count(&self) -> usize
-        ensures { result ≡ length (all_accesses (first_alone self.now.paths.items)) }
-    {
-        if self.paths.is_empty() {
-            return 0;
-        }
-        self.paths[0].path.accesses.len()
-    }
-
-    /// How many ends stand on the first path.
-    pub fn first_end_count(&self) -> usize
-        ensures { result ≡ length (all_ends (first_alone self.now.paths.items)) }
-    {
-        if self.paths.is_empty() {
-            return 0;
-        }
-        self.paths[0].path.ends.len()
     }
 }

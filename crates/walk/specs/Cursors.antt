@@ -20,6 +20,7 @@ use Rattle.places.specs.View.{place}
 use Rattle.two_thread.specs.Paths.{claims_seen, accesses_seen, ends_seen}
 use Rattle.two_thread.specs.declared.walked.Tagged.{Tagged}
 use Rattle.walk.specs.Behind.{paths_from, fits_from}
+use Rattle.walk.specs.Owned.{AllAreOwn}
 use Rattle.walk.specs.Planting.{all_by}
 use Rattle.walk.specs.Unfound.{HaveFewPaths, IsUnfound}
 use Rattle.walk.specs.declared.error.FindError.{FindError}
@@ -84,6 +85,10 @@ trees_of g t = all_trees g (kernel_of t) (conditions_of t) (notes_of t)
 abbrev pub trees_at : {E : Type 0} → Ghosts E → Terrain E → (claims at : ℕ) → List (Planted E)
 trees_at g t claims at = all_by g (setting g t.setting) (kernel_of t) (notes_of t) claims (map place (drop at t.places.now))
 
+-- what a walk of one place asks for: no tree has symbols of the second item, however many claims are taken to stand before its place
+abbrev pub IsWalkable : {E : Type 0} → Ghosts E → Terrain E → Type 0
+IsWalkable g t = (are_sizes (kernel_of t).sizes ≡ true) × AllAreOwn g (setting g t.setting) (kernel_of t) (notes_of t)
+
 -- the places are those of the kernel, and the setting is that of its conditions
 pub record IsWhole {E : Type 0} (g : Ghosts E) (t : Terrain E) : Type 0 where
   pub sizes : are_sizes (kernel_of t).sizes ≡ true
@@ -91,6 +96,7 @@ pub record IsWhole {E : Type 0} (g : Ghosts E) (t : Terrain E) : Type 0 where
   pub known : known_seen t.setting.known ≡ known g (kernel_of t).sizes (conditions_of t)
   pub own_accesses : all_own_accesses (accesses_of (trees_of g t)) ≡ true
   pub own_ends : all_own_ends (ends_in (trees_of g t)) ≡ true
+  pub own : AllAreOwn g (setting g t.setting) (kernel_of t) (notes_of t)
 
 -- the trees that are left, and the choices with which the first of them goes on
 abbrev pub trees_left : {E : Type 0} → Ghosts E → Terrain E → Paths → List (Planted E)

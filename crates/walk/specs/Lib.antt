@@ -1,7 +1,6 @@
 pub mod Behind
 pub mod Cursors
 pub mod Fitting
-pub mod Given
 pub mod Owned
 pub mod Paths
 pub mod Planting

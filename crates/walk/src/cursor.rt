@@ -160,13 +160,6 @@ impl Paths {
         Ok(Some(self.stepped(terrain.setting.alloc, walked, following)))
     }
 
-    /// The error that the last call answered, if it answered one.
-    pub fn refusal(&self) -> Option<FindError>
-        ensures { result ≡ stopped self.now }
-    {
-        copy_of_stopped(&self.stopped)
-    }
-
     /// The next path with its place, or none at the end. An error is answered again by each later call.
     pub fn next<D: Domain>(
         &mut self,

@@ -2,10 +2,9 @@
 //!
 //! All paths of all places in turn, and of what one item meets along them all that is to be shown. The choices of a path are those of the
 //! one before it, with the last first way turned into the other one. What the paths so far found, and what is left behind them, is the tree
-//! (`specs/Walked.antt`). Cursors go along the same paths and hold one at a time (`specs/Cursors.antt`).
+//! (`specs/Walked.antt`). A cursor goes along the same paths and gives one at a time (`specs/Cursors.antt`).
 #![tactic(auto)]
 
-mod accesses;
 mod at_hand;
 mod choices;
 mod cursor;
@@ -13,18 +12,13 @@ mod error;
 mod every;
 mod finding;
 mod following;
-mod ground;
-mod leaves;
 mod numbers;
 mod one_path;
 mod paths;
 mod terrain;
 
-pub use accesses::Accesses;
-pub use at_hand::{alone, put_beside};
+pub use at_hand::alone;
 pub use cursor::Paths;
 pub use error::FindError;
 pub use finding::{find, setting_of};
-pub use ground::{Ground, PlacePaths};
-pub use leaves::Leaves;
-pub use terrain::{Terrain, terrain_of};
+pub use terrain::{PlacePaths, Terrain, paths_of, terrain_of};

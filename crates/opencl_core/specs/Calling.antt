@@ -13,6 +13,7 @@ use Rattle.opencl_values.specs.Scope.{Meaning, ArrayOf, UnreadOf, meaning_of}
 use Rattle.opencl_values.specs.Wholes.{places, is_same_type}
 use Rattle.opencl_values.specs.Vectors.{converted_to}
 use Rattle.opencl_values.specs.Values.{value_of}
+use Rattle.opencl_core.specs.BuiltIns.{is_built_in}
 use Rattle.opencl_core.specs.Sites.{begin_of}
 use Rattle.opencl_core.specs.Templates.{Taken, TakesValue, TakesArray, Returned, Text, Template, template_named}
 use Rattle.opencl_core.specs.Rooms.{Room, known, set, with_drawn, most_slots, most_statements}
@@ -128,8 +129,11 @@ abbrev pub call_text : Site → (name : List ℕ) → Expressions → Template �
 call_text at name es t r =
     then (when (is_unread (meaning_of r.visible name)) WrongType at t) (λ u. then (chosen_text u.whole u.moved es r) (λ x. put_call at es x r))
 
+-- a function of the file; which one is called under the name of a built-in one, compilers choose by types
 abbrev pub write_call : Site → (name : List ℕ) → Expressions → Room → Checked Room
-write_call at name es r = then (found (template_named r.templates name) (LeftOut Outside) at) (λ t. call_text at name es t r)
+write_call at name es r =
+    cond (is_built_in name) (refused (LeftOut Outside) at)
+    (then (found (template_named r.templates name) (LeftOut Outside) at) (λ t. call_text at name es t r))
 
 -- arguments are drawn. What was written out is found by its place, so no other call of a function of the file may stand there
 abbrev pub draw_call : Site → (name : List ℕ) → Expressions → Room → Checked Room

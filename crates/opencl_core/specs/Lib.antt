@@ -1,4 +1,5 @@
 pub mod Assigning
+pub mod BuiltIns
 pub mod Calling
 pub mod Components
 pub mod ComponentsView

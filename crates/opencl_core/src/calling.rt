@@ -12,6 +12,7 @@ ghost use Rattle.opencl_values.specs.View.{Gives, meaning_in};
 ghost use Rattle.opencl_core.specs.Calling as rules;
 ghost use Rattle.opencl_core.specs.View as seen;
 
+use crate::built_ins::is_built_in;
 use crate::components::{is_same_space, set_picked};
 use crate::flags::is_hidden;
 use crate::pointing::{Pointed, offset_of, pointed_in};
@@ -444,6 +445,9 @@ fn write_call(
 ) -> Result<(), ValueError>
     ensures { Gives (λ _. seen.room room.new) result (rules.write_call (site_seen at) name.now (expressions arguments.now) (seen.room room.old)) }
 {
+    if is_built_in(name) {
+        return refused(Fault::LeftOut(Construct::Outside), at);
+    }
     match template_named(room.templates, name) {
         Some(template) => call_text(alloc, at, name, arguments, template, room),
         None => refused(Fault::LeftOut(Construct::Outside), at),

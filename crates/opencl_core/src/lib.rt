@@ -6,6 +6,7 @@
 #![tactic(auto)]
 
 pub mod assigning;
+mod built_ins;
 pub mod calling;
 pub mod components;
 pub mod constants;

@@ -1,3 +1,4 @@
 pub mod Products
 pub mod Unmet
 pub mod Least
+pub mod ByCounts

@@ -47,11 +47,11 @@ none-unless : (b : Bool) (n : ℕ) (others : Option ℕ) → b ≡ true → othe
 none-unless true n others h k = k
 none-unless false n others h k = cc
 
-then-none : (a b : Option ℕ) → then a b ≡ None → (a ≡ None) × (b ≡ None)
+pub then-none : (a b : Option ℕ) → then a b ≡ None → (a ≡ None) × (b ≡ None)
 then-none None b h = (refl, h)
 then-none (Some n) b h = cc
 
-none-then : (a b : Option ℕ) → a ≡ None → b ≡ None → then a b ≡ None
+pub none-then : (a b : Option ℕ) → a ≡ None → b ≡ None → then a b ≡ None
 none-then None b h k = k
 none-then (Some n) b h k = cc
 
@@ -125,7 +125,7 @@ contents-met l (x ∷ xs) h =
     let k = unless-none (is_held l (content x)) x.line (unmet_contents l xs) h in
     All-cons (IsHeld l) (content x) (map content xs) (held-true l (content x) k.0) (contents-met l xs k.1)
 
-met-contents : (l : Launch) (xs : List Content) → All (IsHeld l) (map content xs) → unmet_contents l xs ≡ None
+pub met-contents : (l : Launch) (xs : List Content) → All (IsHeld l) (map content xs) → unmet_contents l xs ≡ None
 met-contents l [] h = refl
 met-contents l (x ∷ xs) h =
     none-unless (is_held l (content x)) x.line (unmet_contents l xs) (held-met l (content x) (All-head (IsHeld l) (content x) (map content xs) h)) (met-contents l xs (All-tail (IsHeld l) (content x) (map content xs) h))

@@ -43,6 +43,12 @@ unmet_lengths l [] bs = None
 unmet_lengths l (n ∷ ns) [] = None
 unmet_lengths l (n ∷ ns) (b ∷ bs) = unless (int_le (meaning.sum_value l (length_sum n)) (pos (length b))) n.line (unmet_lengths l ns bs)
 
+-- the same of lengths, by the numbers of elements alone
+abbrev pub unmet_counts : launches.Launch → List Length → List ℕ → Option ℕ
+unmet_counts l [] cs = None
+unmet_counts l (n ∷ ns) [] = None
+unmet_counts l (n ∷ ns) (c ∷ cs) = unless (int_le (meaning.sum_value l (length_sum n)) (pos c)) n.line (unmet_counts l ns cs)
+
 abbrev pub unmet_requirements : launches.Launch → List Requirement → Option ℕ
 unmet_requirements l [] = None
 unmet_requirements l (r ∷ rs) =
@@ -69,3 +75,12 @@ abbrev pub unmet : Conditions → launches.Launch → Option ℕ
 unmet c l =
     then (unmet_groups c l) (then (unmet_arguments c.arguments.items l.arguments) (
     then (unmet_lengths l c.lengths.items l.buffers) (then (unmet_requirements l c.requirements.items) (unmet_contents l c.contents.items))))
+
+-- a launch with these buffers, this fill word and this machine in the place of its own
+abbrev pub with_buffers : launches.Launch → List (List ℤ) → ℕ → launches.Machine → launches.Launch
+with_buffers l bs f m = record { groups = l.groups; arguments = l.arguments; buffers = bs; fill = f; machine = m }
+
+-- the first condition that no launch with these group counts, arguments and numbers of elements meets, but for what buffers hold
+abbrev pub unmet_by : Conditions → launches.Launch → List ℕ → Option ℕ
+unmet_by c l cs =
+    then (unmet_groups c l) (then (unmet_arguments c.arguments.items l.arguments) (then (unmet_counts l c.lengths.items cs) (unmet_requirements l c.requirements.items)))

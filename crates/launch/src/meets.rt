@@ -1,12 +1,14 @@
 //! Whether a launch meets its conditions.
 
-ghost use Rattle.std.specs.Prelude.{◌≡◌, length, map, pos, int_le, vec_len, IsOk, ◌↔◌};
+ghost use Rattle.std.specs.Prelude.{◌≡◌, ℕ, ℤ, List, length, map, pos, int_le, vec_len, IsOk, ◌↔◌};
 ghost use Rattle.semantics.specs.Conditions as meaning;
-ghost use Rattle.semantics.specs.Conditions.{Meets};
+ghost use Rattle.semantics.specs.Conditions.{Meets, IsHeld};
+ghost use Rattle.semantics.specs.Launch.{Machine};
+ghost use Rattle.std.specs.List.{All};
 ghost use Rattle.words.specs.View.{value_of, word as word_of};
 ghost use Rattle.launch.specs.View.{conditions as conditions_of, launch as launch_of, buffer as buffer_of, count_range, argument_range, length_sum, requirement as requirement_of, content as content_of};
 ghost use Rattle.launch.specs.Differences.{difference};
-ghost use Rattle.launch.specs.Unmet.{answer, is_in, is_held, may_hold, may_hold_all, unmet, unmet_groups, unmet_arguments, unmet_lengths, unmet_requirements, unmet_contents};
+ghost use Rattle.launch.specs.Unmet.{unmet_counts, unmet_by, with_buffers, answer, is_in, is_held, may_hold, may_hold_all, unmet, unmet_groups, unmet_arguments, unmet_lengths, unmet_requirements, unmet_contents};
 
 use crate::conditions::{ArgumentRange, Conditions, Content, CountRange, Length, Requirement};
 use crate::error::ConditionError;
@@ -168,4 +170,56 @@ pub fn meets(conditions: &Conditions, launch: &Launch) -> Result<(), ConditionEr
     ensures met { IsOk result ↔ Meets (conditions_of conditions.now) (launch_of launch.now) }
 {
     first_unmet(conditions, launch)
+}
+
+fn is_count_enough(launch: &Launch, least: &Length, count: u64) -> bool
+    ensures { result ≡ int_le (meaning.sum_value (launch_of launch.now) (length_sum least.now)) (pos count) }
+{
+    let length = Difference {
+        plus: count as u128,
+        minus: 0,
+    };
+    length.at_least(sum_of(launch, &least.least))
+}
+
+fn counts_meet(launch: &Launch, lengths: &[Length], counts: &[u64]) -> Result<(), ConditionError>
+    requires { length lengths.now ≡ length counts.now }
+    ensures { answer result ≡ unmet_counts (launch_of launch.now) lengths.now counts.now }
+{
+    for (at, length) in lengths.iter().enumerate() {
+        if !is_count_enough(launch, length, counts[at]) {
+            return Err(ConditionError { line: length.line });
+        }
+    }
+    Ok(())
+}
+
+fn first_unmet_by(
+    conditions: &Conditions,
+    launch: &Launch,
+    counts: &[u64],
+) -> Result<(), ConditionError>
+    requires arguments { vec_len conditions.now.arguments ≡ vec_len launch.now.arguments }
+    requires buffers { vec_len conditions.now.lengths ≡ length counts.now }
+    ensures { answer result ≡ unmet_by conditions.now (launch_of launch.now) counts.now }
+{
+    groups_meet(conditions, launch)?;
+    arguments_meet(&conditions.arguments, &launch.arguments)?;
+    counts_meet(launch, &conditions.lengths, counts)?;
+    requirements_meet(launch, &conditions.requirements)
+}
+
+/// Whether launches with these group counts and arguments, whose buffers have so many elements, meet the conditions, as long as the buffers
+/// hold what they may; else the line of the first that none of them meets.
+pub fn meets_by_counts(
+    conditions: &Conditions,
+    launch: &Launch,
+    counts: &[u64],
+) -> Result<(), ConditionError>
+    requires arguments { vec_len conditions.now.arguments ≡ vec_len launch.now.arguments }
+    requires buffers { vec_len conditions.now.lengths ≡ length counts.now }
+    ensures first { answer result ≡ unmet_by conditions.now (launch_of launch.now) counts.now }
+    ensures met { IsOk result → (bs : List (List ℤ)) (f : ℕ) (m : Machine) → map (λ (b : List ℤ). length b) bs ≡ counts.now → All (IsHeld (with_buffers (launch_of launch.now) bs f m)) (map content_of conditions.now.contents.items) → Meets (conditions_of conditions.now) (with_buffers (launch_of launch.now) bs f m) }
+{
+    first_unmet_by(conditions, launch, counts)
 }

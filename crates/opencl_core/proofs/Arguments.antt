@@ -1,9 +1,11 @@
 -- Calls by their arguments.
-use Rattle.std.proofs.Common.{◌≡◌, ◌≢◌, ◌<◌, ◌≤◌, ℕ, List, [], ◌∷◌, length, refl, arith}
+use Rattle.std.proofs.Common.{◌≡◌, ◌≢◌, ◌<◌, ◌≤◌, ◌+◌, ℕ, List, [], ◌∷◌, length, refl, ap, ◌∙◌, arith, add-one}
 use Rattle.semantics.specs.Core.{Site}
-use Rattle.opencl_tree.specs.View.{expressions}
+use Rattle.opencl_tree.specs.View.{expressions, initials}
+use Rattle.opencl_tree.specs.declared.tree.Initial.{Initial}
 use Rattle.opencl_tree.specs.declared.tree.Expr.{Expr}
 use Rattle.opencl_values.specs.Faults.{BarrierFlags, WrongType, refused}
+use Rattle.opencl_core.specs.Declaring.{count_of}
 use Rattle.opencl_core.specs.Flags.{fences_in}
 use Rattle.opencl_core.specs.Rooms.{Room}
 use Rattle.opencl_core.specs.VectorStores.{write_vector}
@@ -29,3 +31,9 @@ write_vector-many at n (e ∷ x ∷ y ∷ z ∷ es) r h = refl
 pub ruleset arguments = (fences-many)
 
 pub ruleset vector_arguments = (write_vector-few, write_vector-many)
+
+pub count_of-length : (is : List Initial) → count_of (initials is) ≡ length is
+count_of-length [] = refl
+count_of-length (i ∷ is) = ap (λ n. n + 1) (count_of-length is) ∙ add-one (length is)
+
+pub ruleset counts = (count_of-length)

@@ -15,15 +15,16 @@ use Rattle.opencl_values.specs.Scope.{Meaning, VariableOf, ArrayOf, PointerOf, N
 use Rattle.opencl_values.specs.Singles.{Single, single, alone}
 use Rattle.opencl_values.specs.Wholes.{whole, single_in, only, places, is_same_type}
 use Rattle.opencl_values.specs.Members.{picked_of, target_places}
-use Rattle.opencl_values.specs.Elements.{Part, Element, as_offset, loaded_from}
+use Rattle.opencl_values.specs.Elements.{Part, Element, as_offset, steps, loaded_from}
+use Rattle.opencl_values.specs.Views.{pieces, memory_of}
 use Rattle.opencl_values.specs.Pointers.{moved}
 use Rattle.opencl_values.specs.Vectors.{infix_of, converted_to}
 use Rattle.opencl_values.specs.Values.{value_of, part_of, element_of, pointed_to, variable_value}
 use Rattle.opencl_core.specs.Sites.{begin_of}
 use Rattle.opencl_core.specs.Repeating.{is_steady}
-use Rattle.opencl_core.specs.Pointing.{Pointed, pointed_in, offset_of}
+use Rattle.opencl_core.specs.Pointing.{Pointed, pointed_in, offset_of, is_same_view}
 use Rattle.opencl_core.specs.Rooms.{Room, known, write, set, next_slot, made_up}
-use Rattle.opencl_core.specs.Components.{put_picked, mixed_with, store_vector}
+use Rattle.opencl_core.specs.Components.{put_picked, mixed_with, keep_all, store_all, store_vector}
 
 -- an assignment but for its target: where it begins, its operator with its site, and its value, which is 1 where there is none
 pub record Change : Type 0 where
@@ -125,7 +126,7 @@ kind_behind ids (n ∷ []) None (Some o) s = word.Int
 kind_behind ids ns index offset s = word.Uint
 
 abbrev pub kind_in_part : (ids : Kind) → Part → Scalar → Kind
-kind_in_part ids p s = kind_behind ids p.lengths p.index p.offset s
+kind_in_part ids p s = cond (is_some p.over) word.Uint (kind_behind ids p.lengths p.index p.offset s)
 
 abbrev pub index_kind : Room → Site → (of index : Expression) → Checked Kind
 index_kind r at of index =
@@ -140,15 +141,35 @@ target_of c at of index r =
     then (element_of (known r) at of index) (λ x. then (index_kind r at of index) (λ k.
     when (not x.is_constant) WriteToConst c.at (x, kind_for x.element k)))
 
+-- what is seen as another type is stored as the elements under it, by an index and a value that are kept in variables
+abbrev pub store_over : Change → Element → (over : Scalar) → Value → Room → Checked Room
+store_over c x a v r =
+    then (keep_all c.at v v.type.width r) (λ k.
+    store_all (record { at = c.at; sign_site = c.sign_site }) x (memory_of c.at a k.0) (places (pieces a v.type)) k.1)
+
+abbrev pub change_kept_over : Change → Element → (over : Scalar) → Room → Checked Room
+change_kept_over c x a r = then (assigned c x.element (loaded_from c.at x) r) (λ v. store_over c x a v r)
+
+abbrev pub change_over : Change → (over : Scalar) → (Element × Kind) → Room → Checked Room
+change_over c a x r = then (keep_index c x r) (λ k. change_kept_over c k.0 a k.1)
+
+abbrev pub change_by_type : Change → (Element × Kind) → Room → Checked Room
+change_by_type c x r = cond (is_vector x.0.element) (change_vector c x (places x.0.element.width) r) (change_element c c.sign x r)
+
+abbrev pub change_in_memory : Change → (over : Option Scalar) → (Element × Kind) → Room → Checked Room
+change_in_memory c None x r = change_by_type c x r
+change_in_memory c (Some a) x r = change_over c a x r
+
 abbrev pub change_whole : Change → (Element × Kind) → Room → Checked Room
-change_whole c x r = cond (is_vector x.0.element) (change_vector c x (places x.0.element.width) r) (change_element c c.sign x r)
+change_whole c x r = change_in_memory c x.0.over x r
 
 abbrev pub change_indexed : Change → Site → (of index : Expression) → Room → Checked Room
 change_indexed c at of index r = then (target_of c at of index r) (λ x. change_whole c x r)
 
 abbrev pub change_indexed_member : Change → Site → (at : Site) → (of index : Expression) → (member : List ℕ) → Room → Checked Room
 change_indexed_member c dot at of index member r =
-    then (target_of c at of index r) (λ x. then (target_places dot x.0.element member) (λ ps. change_vector c x ps r))
+    then (target_of c at of index r) (λ x. cond (is_some x.0.over) (refused (LeftOut Vector) dot)
+    (then (target_places dot x.0.element member) (λ ps. change_vector c x ps r)))
 
 -- a member of a variable or of an element is assigned to; a member of a member is left out
 abbrev pub change_in : Change → (dot : Site) → Expression → (member : List ℕ) → Room → Checked Room
@@ -168,15 +189,17 @@ pointed_target c at e r =
 abbrev pub change_pointed : Change → Site → Expression → Room → Checked Room
 change_pointed c at e r = then (pointed_target c at e r) (λ x. change_whole c x r)
 
--- what a pointer variable is: its array, its type, whether it points into a private array, its slot
+-- what a pointer variable is: its array, its type, whether it points into a private array, the scalar of a buffer whose elements it sees
+-- as ones of another type, its slot
 pub record Pointing : Type 0 where
   pub array : Array
   pub element : ValueType
   pub is_own : Bool
+  pub over : Option Scalar
   pub slot : ℕ
 
 abbrev pub pointing_meant : Option Meaning → Option Pointing
-pointing_meant (Some (PointerOf a t constant row slot)) = Some (record { array = a; element = t; is_own = is_some row; slot = slot })
+pointing_meant (Some (PointerOf a t constant row over slot)) = Some (record { array = a; element = t; is_own = is_some row; over = over; slot = slot })
 pointing_meant m = None
 
 abbrev pub space_number : core.Space → ℕ
@@ -188,7 +211,8 @@ is_same_array a b = nat_eq (space_number a.space) (space_number b.space) && nat_
 
 -- a pointer goes on pointing into the array into which it pointed at first; of a private array it may only be moved
 abbrev pub may_become : Pointing → Pointed → Bool
-may_become p q = is_same_array p.array q.array && (is_same_type p.element q.element && not (p.is_own || is_some q.row))
+may_become p q =
+    is_same_array p.array q.array && (is_same_type p.element q.element && (is_same_view p.over q.over && not (p.is_own || is_some q.row)))
 
 abbrev pub pointer_assigned : Change → Pointing → Pointed → Room → Checked Room
 pointer_assigned c p q r = cond (may_become p q) (set p.slot (offset_of q.offset) c.at r) (refused (LeftOut Pointer) c.at)
@@ -199,7 +223,8 @@ pointer_assign c p (Some e) r = then (pointed_in c.sign_site e r) (λ q. pointer
 
 abbrev pub moved_by : Change → Operator → Pointing → Single → Room → Checked Room
 moved_by c op p v r =
-    cond (is_float v.scalar) (refused WrongType c.at) (set p.slot (moved c.sign_site op (Some (core.Variable p.slot)) (as_offset c.sign_site v)) c.at r)
+    cond (is_float v.scalar) (refused WrongType c.at)
+    (set p.slot (moved c.sign_site op (Some (core.Variable p.slot)) (steps c.sign_site p.over p.element (as_offset c.sign_site v))) c.at r)
 
 abbrev pub pointer_move : Change → Operator → Pointing → Room → Checked Room
 pointer_move c op p r = then (value_in c.value r) (λ v. then (only c.at v) (λ s. moved_by c op p s r))

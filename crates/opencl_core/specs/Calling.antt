@@ -21,9 +21,10 @@ use Rattle.opencl_core.specs.Components.{is_same_space, set_picked}
 use Rattle.opencl_core.specs.Pointing.{Pointed, pointed_in, offset_of}
 use Rattle.opencl_core.specs.Flags.{is_hidden}
 
--- an array that a parameter may be bound to: of the parameter's space, with the same elements; no private array
+-- an array that a parameter may be bound to: of the parameter's space, with the same elements; no private array, and none whose elements
+-- are seen as ones of another type
 abbrev pub may_bind : (space : core.Space) → (element : ValueType) → Pointed → Bool
-may_bind space t p = is_same_space space p.array.space && (is_same_type t p.element && not (is_some p.row))
+may_bind space t p = is_same_space space p.array.space && (is_same_type t p.element && not (is_some p.row || is_some p.over))
 
 -- a constant array is bound to a parameter that stores nothing (C99 6.5.16.1, 6.5.2.2p2)
 abbrev pub bound_to : Site → (space : core.Space) → (element : ValueType) → (is_constant : Bool) → Pointed → Checked Pointed

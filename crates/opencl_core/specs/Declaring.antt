@@ -207,9 +207,24 @@ begin_own n Absent o = Ok o.1
 begin_own n (Given e) o = refused WrongType o.0.site
 begin_own n (Listed at es) o = begin_listed n at es o.0 o.1
 
+-- an open length is that of the list (C99 6.7.8p22)
+abbrev pub count_of : Initials → ℕ
+count_of no_more = 0
+count_of (and_then e es) = count_of es + 1
+
+abbrev pub lengths_by : Site → Initials → Checked Lengths
+lengths_by at es = when (nat_le (count_of es) most_elements) TooMany at (record { all = count_of es ∷ []; product = count_of es })
+
+abbrev pub listed_lengths : Site → Initial → Checked Lengths
+listed_lengths at (Listed s es) = lengths_by s es
+listed_lengths at i = refused WrongType at
+
+abbrev pub own_lengths : Declarator → List (Option Expression) → Room → Checked Lengths
+own_lengths d (None ∷ []) r = listed_lengths d.site d.initial
+own_lengths d ds r = lengths_behind d.site no_lengths ds r
+
 abbrev pub declare_own : Shared → Declarator → List (Option Expression) → Room → Checked Room
-declare_own c d ds r =
-    then (lengths_behind d.site no_lengths ds r) (λ ns. then (own_declared c d ns r) (begin_own (length ns.all) d.initial))
+declare_own c d ds r = then (own_lengths d ds r) (λ ns. then (own_declared c d ns r) (begin_own (length ns.all) d.initial))
 
 abbrev pub declare_variable : Shared → Declarator → List (Option Expression) → Room → Checked Room
 declare_variable c d ds r = cond (nat_eq (length ds) 0) (declare_private c d d.initial r) (declare_own c d ds r)
@@ -221,14 +236,16 @@ is_in_space core.Global (Some Constant) = true
 is_in_space core.Local (Some Local) = true
 is_in_space s q = false
 
-abbrev pub is_private : Option Space → Bool
-is_private None = true
-is_private (Some Private) = true
-is_private q = false
+-- (a constant of the file is a private array here)
+abbrev pub may_have_row : Option Space → Bool
+may_have_row None = true
+may_have_row (Some Private) = true
+may_have_row (Some Constant) = true
+may_have_row q = false
 
 abbrev pub may_point : Option Space → Array → Option (ℕ × core.Term) → Bool
 may_point q a None = is_in_space a.space q
-may_point q a (Some row) = is_private q
+may_point q a (Some row) = may_have_row q
 
 abbrev pub pointer_named : Site → (name : List ℕ) → Meaning → Room → Checked Room
 pointer_named at name m r =
@@ -237,7 +254,7 @@ pointer_named at name m r =
 abbrev pub pointer_set : Shared → Declarator → Pointed → Room → Checked Room
 pointer_set c d p r =
     then (next_slot d.site r) (λ slot. then (set slot (offset_of p.offset) d.site r)
-    (pointer_named d.site d.name (PointerOf p.array p.element (c.qualifiers.constant || p.is_constant) p.row slot)))
+    (pointer_named d.site d.name (PointerOf p.array p.element (c.qualifiers.constant || p.is_constant) p.row p.over slot)))
 
 abbrev pub may_be : Shared → Pointed → Bool
 may_be c p = is_same_type p.element c.type && may_point c.qualifiers.space p.array p.row

@@ -40,7 +40,7 @@ take_whole space p constant n r =
 -- an offset into it is in a slot
 abbrev pub take_moved : (space : core.Space) → Named → (is_constant : Bool) → (number : ℕ) → Room → Checked (Taken × Room)
 take_moved space p constant n r =
-    then (next_slot p.site r) (λ slot. then (pointer_named p.site p.name (PointerOf (own_array n) p.type constant None slot) r) (λ d.
+    then (next_slot p.site r) (λ slot. then (pointer_named p.site p.name (PointerOf (own_array n) p.type constant None None slot) r) (λ d.
     Ok (TakesArray space p.type constant (Some slot), d)))
 
 abbrev pub take_number : (is_moved : Bool) → (space : core.Space) → Named → (is_constant : Bool) → (number : ℕ) → Room → Checked (Taken × Room)

@@ -20,7 +20,7 @@ array_meant m = None
 abbrev pub moving_array : Site → (name : List ℕ) → Array → ValueType → (is_constant : Bool) → Room → Checked Room
 moving_array at name a t constant r =
     then (next_slot at r) (λ slot. then (set slot (int 0) at r) (λ w.
-    Ok (bound name (PointerOf a t constant None slot) (with_range at name w.next not_ended (with_slot word.Int w)))))
+    Ok (bound name (PointerOf a t constant None None slot) (with_range at name w.next not_ended (with_slot word.Int w)))))
 
 -- (a value that is assigned to is no pointer)
 abbrev pub moving_meant : Site → (name : List ℕ) → Option (Array × ValueType × Bool) → Room → Checked Room

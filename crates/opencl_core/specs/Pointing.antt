@@ -1,9 +1,9 @@
 -- What pointers point into (C99 6.5.3.2, 6.5.6).
-use Rattle.std.specs.Prelude.{ℕ, List, [], ◌∷◌, Bool, true, false, cond, ◌&&◌, Option, None, Some, Ok}
+use Rattle.std.specs.Prelude.{ℕ, List, [], ◌∷◌, Bool, true, false, cond, ◌&&◌, nat_eq, Option, None, Some, Ok}
 use Rattle.semantics.specs.Core as core
 use Rattle.semantics.specs.Core.{Site, Array}
 use Rattle.opencl_tree.specs.Tree.{Expression}
-use Rattle.opencl_terms.specs.Types.{ValueType}
+use Rattle.opencl_terms.specs.Types.{Scalar, ValueType, scalar_number}
 use Rattle.opencl_terms.specs.Conversions.{int}
 use Rattle.opencl_values.specs.Faults.{Checked, LeftOut, Pointer, refused, then}
 use Rattle.opencl_values.specs.Elements.{Part}
@@ -30,19 +30,28 @@ row_behind at (n ∷ []) (Some t) = cond (is_fixed t) (Ok (Some (n, t))) (refuse
 row_behind at [] None = Ok None
 row_behind at ns t = refused (LeftOut Pointer) at
 
--- what a pointer points into, and its offset
+-- what a pointer points into, and its offset; where a buffer's elements are seen as ones of another type, `over` is the buffer's scalar
 pub record Pointed : Type 0 where
   pub array : Array
   pub element : ValueType
   pub is_constant : Bool
   pub row : Option (ℕ × core.Term)
   pub offset : Option core.Term
+  pub over : Option Scalar
 
 abbrev pub pointed_by : Part → Option (ℕ × core.Term) → Pointed
-pointed_by p row = record { array = p.array; element = p.element; is_constant = p.is_constant; row = row; offset = p.offset }
+pointed_by p row =
+    record { array = p.array; element = p.element; is_constant = p.is_constant; row = row; offset = p.offset; over = p.over }
 
 abbrev pub pointed : Site → Part → Checked Pointed
 pointed at p = then (row_behind at p.lengths p.index) (λ row. Ok (pointed_by p row))
 
 abbrev pub pointed_in : Site → Expression → Room → Checked Pointed
 pointed_in at e r = then (part_of (known r) at e) (pointed at)
+
+-- whether two pointers see the elements of a buffer alike
+abbrev pub is_same_view : (a b : Option Scalar) → Bool
+is_same_view None None = true
+is_same_view None (Some b) = false
+is_same_view (Some a) None = false
+is_same_view (Some a) (Some b) = nat_eq (scalar_number a) (scalar_number b)

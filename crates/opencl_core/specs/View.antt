@@ -23,7 +23,7 @@ use Rattle.opencl_terms.specs.View.{scalar}
 use Rattle.opencl_values.specs.Elements as elements
 use Rattle.opencl_values.specs.ElementsView.{element, maybe_term}
 use Rattle.opencl_values.specs.Faults.{Checked}
-use Rattle.opencl_values.specs.View.{all_drawn, bindings, fault, maybe_row, single}
+use Rattle.opencl_values.specs.View.{all_drawn, bindings, fault, maybe_row, maybe_scalar, single}
 use Rattle.opencl_values.specs.declared.error.Fault.{Fault}
 use Rattle.opencl_core.specs.Assigning as assigning
 use Rattle.opencl_core.specs.Declaring as declaring
@@ -157,6 +157,7 @@ pointed p = record {
   is_constant = p.is_constant;
   row = maybe_row p.row;
   offset = maybe_term p.offset;
+  over = maybe_scalar p.over;
 }
 
 abbrev pub value_given : Option (Bor Expr) → Option tree.Expression
@@ -167,7 +168,7 @@ abbrev pub change : Change → assigning.Change
 change c = record { at = site c.at; sign = assign_sign c.sign; sign_site = site c.sign_site; value = value_given c.value }
 
 abbrev pub pointing : Pointing → assigning.Pointing
-pointing p = record { array = array p.array; element = value_type p.element; is_own = p.is_own; slot = p.slot }
+pointing p = record { array = array p.array; element = value_type p.element; is_own = p.is_own; over = maybe_scalar p.over; slot = p.slot }
 
 abbrev pub maybe_pointing : Option Pointing → Option assigning.Pointing
 maybe_pointing None = None

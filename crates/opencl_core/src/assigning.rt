@@ -18,8 +18,8 @@ ghost use Rattle.opencl_core.specs.Components as components;
 ghost use Rattle.opencl_core.specs.Assigning as rules;
 ghost use Rattle.opencl_core.specs.View as seen;
 
-use crate::components::{Spot, mixed_with, put_picked, store_vector};
-use crate::pointing::{Pointed, offset_of, pointed_in};
+use crate::components::{Spot, keep_all, mixed_with, put_picked, store_all, store_vector};
+use crate::pointing::{Pointed, is_same_view, offset_of, pointed_in};
 use crate::rooms::Room;
 use crate::sites::begin_of;
 use crate::steady::is_steady;
@@ -30,7 +30,7 @@ use opencl_terms::narrowing::stored;
 use opencl_terms::scalars::{Scalar, ValueType};
 use opencl_tree::tree::{Expr, PrefixSign, StepSign};
 use opencl_tree::types::{Base, Qualifiers};
-use opencl_values::elements::{Element, Part, as_offset, loaded_from};
+use opencl_values::elements::{Element, Part, as_offset, loaded_from, steps};
 use opencl_values::error::{Construct, Fault, ValueError, refused};
 use opencl_values::members::{picked_of, target_places};
 use opencl_values::pointers::moved;
@@ -38,6 +38,7 @@ use opencl_values::scope::{Meaning, meaning_of};
 use opencl_values::singles::{Single, alone};
 use opencl_values::values::{element_of, part_of, pointed_to, value_of, variable_value};
 use opencl_values::vectors::{converted_to, infix_of};
+use opencl_values::views::{memory_of, pieces};
 use opencl_values::wholes::{Value, is_same_type, only, places, single_in, whole};
 use std::alloc::{AllocError, Global};
 use syntax::tree::{AssignSign, InfixSign};
@@ -262,6 +263,7 @@ fn old_value(alloc: Global, at: Site, element: &Element) -> Result<Value, AllocE
         element: element.element,
         is_constant: element.is_constant,
         index: copy_of(alloc, &element.index)?,
+        over: element.over,
     };
     loaded_from(alloc, at, once_more)
 }
@@ -303,6 +305,7 @@ fn keep_index(
         element: element.element,
         is_constant: element.is_constant,
         index: Term::Variable { slot },
+        over: element.over,
     };
     room.set(slot, element.index, change.at)?;
     room.make_up(alloc, change.at, kind)?;
@@ -448,6 +451,9 @@ fn change_vector(
 fn kind_in_part(ids: Kind, of: &Part, index: Scalar) -> Kind
     ensures { kind_seen result ≡ rules.kind_in_part (kind_seen ids) (part_seen of.now) (scalar_seen index) }
 {
+    if of.over.is_some() {
+        return Kind::Uint;
+    }
     match (of.lengths, &of.index, &of.offset) {
         ([] | [_], None, None) => index.kind(ids),
         ([] | [_], None, Some(_)) => Kind::Int,
@@ -533,6 +539,61 @@ fn target_of(
     Ok(Target { element, kind })
 }
 
+// A store to what is seen as another type, as one to the elements under it.
+fn store_over(
+    alloc: Global,
+    change: Change,
+    element: &Element,
+    over: Scalar,
+    of: &Value,
+    room: &mut Room,
+) -> Result<(), ValueError>
+    ensures { Gives (λ _. seen.room room.new) result (rules.store_over (seen.change change.entry) (element_seen element.now) (scalar_seen over) (value_seen of.now) (seen.room room.old)) }
+{
+    let to = of.of;
+    let kept = keep_all(alloc, change.at, of, to.width, room)?;
+    let memory = memory_of(alloc, change.at, over, &kept)?;
+    let spot = Spot {
+        at: change.at,
+        sign_site: change.sign_site,
+    };
+    store_all(
+        alloc,
+        spot,
+        element,
+        &memory,
+        places(pieces(over, to)),
+        room,
+    )
+}
+
+fn change_kept_over(
+    alloc: Global,
+    change: Change,
+    element: &Element,
+    over: Scalar,
+    room: &mut Room,
+) -> Result<(), ValueError>
+    ensures { Gives (λ _. seen.room room.new) result (rules.change_kept_over (seen.change change.entry) (element_seen element.now) (scalar_seen over) (seen.room room.old)) }
+{
+    let old = old_value(alloc, change.at, element)?;
+    let value = assigned(alloc, change, element.element, old, room)?;
+    store_over(alloc, change, element, over, &value, room)
+}
+
+fn change_over(
+    alloc: Global,
+    change: Change,
+    over: Scalar,
+    target: Target,
+    room: &mut Room,
+) -> Result<(), ValueError>
+    ensures { Gives (λ _. seen.room room.new) result (rules.change_over (seen.change change.entry) (scalar_seen over) (seen.target target) (seen.room room.old)) }
+{
+    let kept = keep_index(alloc, change, target, room)?;
+    change_kept_over(alloc, change, &kept, over, room)
+}
+
 fn change_whole(
     alloc: Global,
     change: Change,
@@ -541,6 +602,9 @@ fn change_whole(
 ) -> Result<(), ValueError>
     ensures { Gives (λ _. seen.room room.new) result (rules.change_whole (seen.change change.entry) (seen.target target) (seen.room room.old)) }
 {
+    if let Some(over) = target.element.over {
+        return change_over(alloc, change, over, target, room);
+    }
     let of = target.element.element;
     if of.is_vector() {
         change_vector(alloc, change, target, places(of.width), room)
@@ -574,6 +638,9 @@ fn change_indexed_member(
     ensures { Gives (λ _. seen.room room.new) result (rules.change_indexed_member (seen.change change.entry) (site_seen member.entry.at) (site_seen at) (expression element.entry.0.now) (expression element.entry.1.now) member.entry.name.now (seen.room room.old)) }
 {
     let target = target_of(alloc, change, at, element.0, element.1, room)?;
+    if target.element.over.is_some() {
+        return refused(Fault::LeftOut(Construct::Vector), member.at);
+    }
     let picked = target_places(alloc, member.at, target.element.element, member.name)?;
     change_vector(alloc, change, target, picked.as_slice(), room)
 }
@@ -599,12 +666,14 @@ fn change_in(
     }
 }
 
-/// What a pointer variable is: its array, its type, whether it points into a private array, its slot.
+/// What a pointer variable is: its array, its type, whether it points into a private array, the scalar of a buffer whose elements it sees
+/// as ones of another type, its slot.
 #[derive(Clone, Copy)]
 pub struct Pointing {
     pub array: Array,
     pub element: ValueType,
     pub is_own: bool,
+    pub over: Option<Scalar>,
     pub slot: u32,
 }
 
@@ -617,6 +686,7 @@ fn pointing_meant(meaning: Option<&Meaning>) -> Option<Pointing>
                 array,
                 element,
                 row,
+                over,
                 slot,
                 ..
             },
@@ -624,6 +694,7 @@ fn pointing_meant(meaning: Option<&Meaning>) -> Option<Pointing>
             array: *array,
             element: *element,
             is_own: row.is_some(),
+            over: *over,
             slot: *slot,
         }),
         _ => None,
@@ -650,6 +721,7 @@ fn may_become(pointing: Pointing, to: &Pointed) -> bool
 {
     is_same_array(pointing.array, to.array)
         && is_same_type(pointing.element, to.element)
+        && is_same_view(pointing.over, to.over)
         && !(pointing.is_own || to.row.is_some())
 }
 
@@ -687,6 +759,7 @@ fn pointer_move(
         return refused(Fault::WrongType, change.at);
     }
     let by = as_offset(alloc, change.sign_site, by)?;
+    let by = steps(alloc, change.sign_site, pointing.over, pointing.element, by)?;
     let offset = Some(Term::Variable {
         slot: pointing.slot,
     });

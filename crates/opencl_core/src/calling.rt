@@ -36,7 +36,9 @@ use std::alloc::{AllocError, Global};
 fn may_bind(space: CoreSpace, element: ValueType, of: &Pointed) -> bool
     ensures { result ≡ rules.may_bind (space_seen space) (value_type element) (seen.pointed of.now) }
 {
-    is_same_space(space, of.array.space) && is_same_type(element, of.element) && of.row.is_none()
+    is_same_space(space, of.array.space)
+        && is_same_type(element, of.element)
+        && !(of.row.is_some() || of.over.is_some())
 }
 
 // What a parameter for an array is bound to.

@@ -340,7 +340,8 @@ fn store_component(
     Ok(())
 }
 
-fn store_all(
+/// Stores components, one behind the other, of which none depends on the array.
+pub fn store_all(
     alloc: Global,
     spot: Spot,
     element: &Element,

@@ -101,6 +101,7 @@ fn take_moved<'a>(
         element,
         is_constant: constant,
         row: None,
+        over: None,
         slot,
     };
     pointer_named(alloc, parameter.site, parameter.name, meaning, room)?;

@@ -68,6 +68,7 @@ fn move_array<'a>(
         element: of.element,
         is_constant: of.is_constant,
         row: None,
+        over: None,
         slot,
     };
     room.visible.push(Binding { name, meaning })?;

@@ -109,6 +109,7 @@ fn copied_meaning(alloc: Global, of: &Meaning) -> Result<Meaning, AllocError>
             element,
             is_constant,
             row,
+            over,
             slot,
         } => {
             let row = copied_row(alloc, row)?;
@@ -117,6 +118,7 @@ fn copied_meaning(alloc: Global, of: &Meaning) -> Result<Meaning, AllocError>
                 element: *element,
                 is_constant: *is_constant,
                 row,
+                over: *over,
                 slot: *slot,
             })
         }

@@ -1,6 +1,6 @@
 //! Private arrays, as rows of local ones.
 
-ghost use Rattle.std.specs.Prelude.{◌≡◌, IfOk, map, ◌*◌};
+ghost use Rattle.std.specs.Prelude.{◌≡◌, [], ◌∷◌, IfOk, map, ◌*◌};
 ghost use Rattle.core_code.specs.View.{local_array, site as site_seen, term};
 ghost use Rattle.words.specs.View.{kind as kind_seen};
 ghost use Rattle.opencl_tree.specs.View.{declarator as declarator_seen, expression, initial as initial_seen, initials as initials_seen, maybe};
@@ -273,6 +273,54 @@ fn begin_own(
     }
 }
 
+#[tactic(auto, using(crate::proofs::Arguments::counts))]
+fn count_of(values: &[Initial]) -> usize
+    ensures { result ≡ rules.count_of (initials_seen values.now) }
+{
+    values.len()
+}
+
+fn one_length(alloc: Global, length: u32) -> Result<Lengths, AllocError>
+    ensures { IfOk result (λ l. seen.lengths l ≡ record { all = length ∷ []; product = length }) }
+{
+    let mut all = Vec::new(alloc);
+    all.push(length)?;
+    Ok(Lengths {
+        all,
+        product: length,
+    })
+}
+
+// The length that an array has by its list.
+fn lengths_by(alloc: Global, at: Site, values: &[Initial]) -> Result<Lengths, ValueError>
+    ensures { Gives seen.lengths result (rules.lengths_by (site_seen at) (initials_seen values.now)) }
+{
+    let count = count_of(values);
+    if count > MOST_ELEMENTS as usize {
+        return refused(Fault::TooMany, at);
+    }
+    Ok(one_length(alloc, count as u32)?)
+}
+
+fn listed_lengths(alloc: Global, at: Site, initial: &Initial) -> Result<Lengths, ValueError>
+    ensures { Gives seen.lengths result (rules.listed_lengths (site_seen at) (initial_seen initial.now)) }
+{
+    match initial {
+        Initial::Absent => refused(Fault::WrongType, at),
+        Initial::Given(_) => refused(Fault::WrongType, at),
+        Initial::Listed { site, values } => lengths_by(alloc, *site, values.as_slice()),
+    }
+}
+
+fn own_lengths(alloc: Global, declarator: &Declarator, room: &Room) -> Result<Lengths, ValueError>
+    ensures { Gives seen.lengths result (rules.own_lengths (declarator_seen declarator.now) (declarator_seen declarator.now).dimensions (seen.room room.now)) }
+{
+    match declarator.dimensions.as_slice() {
+        [None] => listed_lengths(alloc, declarator.site, &declarator.initial),
+        dimensions => lengths_of(alloc, declarator.site, dimensions, room),
+    }
+}
+
 /// Declares a private array, and stores what it begins with.
 pub fn declare_own<'a>(
     alloc: Global,
@@ -282,7 +330,7 @@ pub fn declare_own<'a>(
 ) -> Result<(), ValueError>
     ensures { Gives (λ _. seen.room room.new) result (rules.declare_own (seen.shared shared) (declarator_seen declarator.now) (declarator_seen declarator.now).dimensions (seen.room room.old)) }
 {
-    let lengths = lengths_of(alloc, declarator.site, &declarator.dimensions, room)?;
+    let lengths = own_lengths(alloc, declarator, room)?;
     let dimensions = lengths.all.len();
     let own = own_declared(alloc, shared, declarator, lengths, room)?;
     begin_own(alloc, own, dimensions, &declarator.initial, room)

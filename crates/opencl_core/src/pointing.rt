@@ -5,8 +5,9 @@ ghost use Rattle.core_code.specs.View.{array as array_seen, site as site_seen, s
 ghost use Rattle.opencl_tree.specs.View.{declarator as declarator_seen, expression, initial as initial_seen, qualifiers as qualifiers_seen, space_of};
 ghost use Rattle.opencl_terms.specs.Answers.{value_type};
 ghost use Rattle.opencl_values.specs.ElementsView.{maybe_term, part as part_seen};
-ghost use Rattle.opencl_values.specs.View.{Gives, maybe_row, meaning as meaning_seen};
+ghost use Rattle.opencl_values.specs.View.{Gives, maybe_row, maybe_scalar, meaning as meaning_seen};
 ghost use Rattle.opencl_core.specs.Declaring as rules;
+ghost use Rattle.opencl_core.specs.Pointing as pointing_rules;
 ghost use Rattle.opencl_core.specs.View as seen;
 
 use crate::declaring::Shared;
@@ -14,7 +15,7 @@ use crate::drawing::draw_whole;
 use crate::rooms::Room;
 use core_code::tree::{Array, Site, Space as CoreSpace, Term};
 use core_pieces::pieces::literal;
-use opencl_terms::scalars::ValueType;
+use opencl_terms::scalars::{Scalar, ValueType};
 use opencl_tree::tree::{Declarator, Expr, Initial};
 use opencl_tree::types::Space;
 use opencl_values::elements::Part;
@@ -77,10 +78,10 @@ fn is_in_space(space: CoreSpace, named: Option<Space>) -> bool
     }
 }
 
-fn is_private(named: Option<Space>) -> bool
-    ensures { result ≡ rules.is_private (space_of named) }
+fn may_have_row(named: Option<Space>) -> bool
+    ensures { result ≡ rules.may_have_row (space_of named) }
 {
-    matches!(named, None | Some(Space::Private))
+    matches!(named, None | Some(Space::Private | Space::Constant))
 }
 
 fn may_point(named: Option<Space>, array: Array, row: &Option<(u32, Term)>) -> bool
@@ -88,11 +89,11 @@ fn may_point(named: Option<Space>, array: Array, row: &Option<(u32, Term)>) -> b
 {
     match row {
         None => is_in_space(array.space, named),
-        Some(_) => is_private(named),
+        Some(_) => may_have_row(named),
     }
 }
 
-/// What a pointer points into, and its offset.
+/// What a pointer points into, and its offset. Where a buffer's elements are seen as ones of another type, `over` is the buffer's scalar.
 #[derive(Drop)]
 pub struct Pointed {
     pub array: Array,
@@ -100,6 +101,7 @@ pub struct Pointed {
     pub is_constant: bool,
     pub row: Option<(u32, Term)>,
     pub offset: Option<Term>,
+    pub over: Option<Scalar>,
 }
 
 /// What a pointer points into.
@@ -113,6 +115,7 @@ pub fn point_into(at: Site, of: Part<'_>) -> Result<Pointed, ValueError>
         lengths,
         index,
         offset,
+        over,
     } = of;
     let row = row_behind(at, lengths, index)?;
     Ok(Pointed {
@@ -121,6 +124,7 @@ pub fn point_into(at: Site, of: Part<'_>) -> Result<Pointed, ValueError>
         is_constant,
         row,
         offset,
+        over,
     })
 }
 
@@ -136,6 +140,17 @@ fn may_be(shared: Shared, of: &Pointed) -> bool
     ensures { result ≡ rules.may_be (seen.shared shared) (seen.pointed of.now) }
 {
     is_same_type(of.element, shared.of) && may_point(shared.qualifiers.space, of.array, &of.row)
+}
+
+/// Whether two pointers see the elements of a buffer alike.
+pub fn is_same_view(left: Option<Scalar>, right: Option<Scalar>) -> bool
+    ensures { result ≡ pointing_rules.is_same_view (maybe_scalar left) (maybe_scalar right) }
+{
+    match (left, right) {
+        (None, None) => true,
+        (Some(left), Some(right)) => left.number() == right.number(),
+        _ => false,
+    }
 }
 
 /// Declares a pointer of a slot, which is set.
@@ -169,6 +184,7 @@ fn pointer_set<'a>(
         is_constant,
         row,
         offset,
+        over,
     } = of;
     let slot = room.next_slot(at)?;
     room.set(slot, offset_of(offset), at)?;
@@ -177,6 +193,7 @@ fn pointer_set<'a>(
         element,
         is_constant: shared.qualifiers.constant || is_constant,
         row,
+        over,
         slot,
     };
     pointer_named(alloc, at, declarator.name.as_str(), meaning, room)

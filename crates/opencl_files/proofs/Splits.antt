@@ -1,7 +1,10 @@
 -- A list, split before and behind an element, as it is seen.
 use Rattle.std.proofs.Common.{◌≡◌, ℕ, suc, ◌+◌, ◌-◌, ◌<◌, ◌≤◌, List, [], ◌∷◌, ◌++◌, length, get_or, take, drop, refl, ap, sym, subst, ◌∙◌, map, arith, length-drop, add-one}
 use Rattle.std.specs.List.{slice_range}
-use Rattle.std.proofs.lemmas.List.{map-append, drop_more, get_or-drop}
+use Rattle.opencl_tokens.specs.Seen.{lexeme}
+use Rattle.opencl_tokens.specs.declared.Lexeme.{Lexeme}
+use Rattle.opencl_parser.specs.View.{lexemes}
+use Rattle.std.proofs.lemmas.List.{map-append, drop_more, get_or-drop, take-map, drop-map, length-map}
 use Rattle.std.proofs.Math.Seq.{take-suc}
 
 pub dropped : {A B : Type 0} (view : A → B) (xs : List A) (i : ℕ) (d : A) → i < length xs → map view (drop i xs) ≡ view (get_or xs i d) ∷ map view (drop (i + 1) xs)
@@ -28,3 +31,14 @@ pub range_none : {A B : Type 0} (view : A → B) (xs : List A) (i : ℕ) → map
 range_none view xs i =
     let none : i - i ≡ 0 = omega arith in
     ap (λ n. map view (take n (drop i xs))) none
+
+pub lexemes-take : (n : ℕ) (ts : List Lexeme) → lexemes (take n ts) ≡ take n (lexemes ts)
+lexemes-take n ts = sym (take-map lexeme n ts)
+
+pub lexemes-drop : (n : ℕ) (ts : List Lexeme) → lexemes (drop n ts) ≡ drop n (lexemes ts)
+lexemes-drop n ts = sym (drop-map lexeme n ts)
+
+pub lexemes-length : (ts : List Lexeme) → length (lexemes ts) ≡ length ts
+lexemes-length ts = length-map ts lexeme
+
+pub ruleset halves = (lexemes-take, lexemes-drop, lexemes-length)

@@ -7,6 +7,7 @@ use Rattle.opencl_files.specs.Faults.{Answer, Text}
 use Rattle.opencl_files.specs.FileTree.{Header, KernelText}
 use Rattle.opencl_files.specs.Chunks.{Chunk, Cut, chunks_of}
 use Rattle.opencl_files.specs.Functions.{Kernel, kernels, chosen}
+use Rattle.opencl_files.specs.FileConstants.{with_constants}
 use Rattle.opencl_files.specs.Headers.{function}
 use Rattle.opencl_files.specs.Fronts.{Gathered, gathered, nothing_yet}
 
@@ -20,7 +21,7 @@ text_of g (Refused fault at) = Err (Text fault, at)
 
 -- with what stands before it
 abbrev pub text_with : Gathered → List Lexeme → Answer KernelText
-text_with g ts = text_of g (run (function g.known) ts)
+text_with g ts = text_of g (run (function g.known) (with_constants g.constants ts))
 
 abbrev pub kernel_text : Kernel → Answer KernelText
 kernel_text k = text_with (gathered nothing_yet k.before) k.lexemes

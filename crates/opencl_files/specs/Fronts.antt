@@ -1,5 +1,5 @@
--- What stands before a kernel in its file and is heeded: names of types (C99 6.7.7), enumerations (C99 6.7.2.2) and functions with a body
--- (C99 6.9.1).
+-- What stands before a kernel in its file and is heeded: names of types (C99 6.7.7), enumerations (C99 6.7.2.2), constants (C99 6.9.2) and
+-- functions with a body (C99 6.9.1).
 use Rattle.std.specs.Prelude.{ℕ, zero, suc, List, [], ◌∷◌, ◌++◌, Bool, true, false, cond, ◌&&◌, nat_lt, length, Option, None, Some, is_some}
 use Rattle.semantics.specs.Core.{Site}
 use Rattle.opencl_tokens.specs.Words as words
@@ -15,6 +15,7 @@ use Rattle.opencl_parser.specs.Statements.{is_semicolon}
 use Rattle.opencl_files.specs.FileTree.{Header, Enumerator}
 use Rattle.opencl_files.specs.Chunks.{Chunk}
 use Rattle.opencl_files.specs.Functions.{function_in, at_first}
+use Rattle.opencl_files.specs.FileConstants.{with_constants}
 use Rattle.opencl_files.specs.Headers.{function}
 
 -- behind `typedef`
@@ -51,15 +52,16 @@ is_name kind = false
 unfoldable pub enumeration : List Known → Reader (List Enumerator)
 enumeration ks = Looks (λ t. cond (is_name t.kind) (Passes (enumerators ks)) (enumerators ks))
 
--- what was read: the names that are types, their declarations, the enumerations, and the functions
+-- what was read: the names that are types, their declarations, the enumerations, and the functions; and the constants, as they are written
 pub record Gathered : Type 0 where
   pub known : List Known
   pub aliases : List Declaration
   pub enumerations : List (List Enumerator)
   pub functions : List (Header × Statements)
+  pub constants : List Chunk
 
 abbrev pub nothing_yet : Gathered
-nothing_yet = record { known = []; aliases = []; enumerations = []; functions = [] }
+nothing_yet = record { known = []; aliases = []; enumerations = []; functions = []; constants = [] }
 
 -- what cannot be read is passed over, and its names are unknown
 abbrev pub with_alias : Gathered → Attempt (Declaration × Known) → Gathered
@@ -82,7 +84,14 @@ abbrev pub typed : Gathered → List Lexeme → Gathered
 typed g ts = cond (nat_lt (length g.known) most_heeded) (with_alias g (run (type_named g.known (front ts).site) (behind ts))) g
 
 abbrev pub performed : Gathered → List Lexeme → Gathered
-performed g ts = cond (nat_lt (length g.functions) most_heeded) (with_function g (run (function g.known) ts)) g
+performed g ts = cond (nat_lt (length g.functions) most_heeded) (with_function g (run (function g.known) (with_constants g.constants ts))) g
+
+-- at most so many constants are heeded (ours)
+abbrev pub most_constants : ℕ
+most_constants = 256
+
+abbrev pub with_constant : Gathered → Chunk → Gathered
+with_constant g c = cond (nat_lt (length g.constants) most_constants) (record g { constants = g.constants ++ c ∷ [] }) g
 
 -- a function has a body
 abbrev pub is_function : Chunk → Bool
@@ -90,6 +99,7 @@ is_function c = c.is_braced && is_some (function_in at_first c.lexemes)
 
 abbrev pub by_word : Gathered → Chunk → LexemeKind → Gathered
 by_word g c (Word words.Typedef) = typed g c.lexemes
+by_word g c (Word words.Constant) = with_constant g c
 by_word g c (Word words.Enum) = with_enumeration g (run (enumeration g.known) (behind c.lexemes))
 by_word g c kind = cond (is_function c) (performed g c.lexemes) g
 

@@ -1,6 +1,7 @@
 pub mod Chunks
 pub mod Faults
 pub mod Files
+pub mod FileConstants
 pub mod FileTree
 pub mod Fronts
 pub mod Functions

@@ -16,6 +16,7 @@ use Rattle.opencl_files.specs.FileTree as trees
 use Rattle.opencl_files.specs.Chunks as cuts
 use Rattle.opencl_files.specs.Functions as functions
 use Rattle.opencl_files.specs.Headers as headers
+use Rattle.opencl_files.specs.FileConstants as constants
 use Rattle.opencl_files.specs.Fronts as fronts
 use Rattle.opencl_files.specs.declared.errors.FileFault.{FileFault}
 use Rattle.opencl_files.specs.declared.errors.FileFault.TheVariants as faults
@@ -38,6 +39,7 @@ use Rattle.opencl_files.specs.declared.attributes.AttributePart.TheVariants as p
 use Rattle.opencl_files.specs.declared.parameters.Front.{Front}
 use Rattle.opencl_files.specs.declared.headers.Lead.{Lead}
 use Rattle.opencl_files.specs.declared.headers.Title.{Title}
+use Rattle.opencl_files.specs.declared.constants.Place.{Place}
 use Rattle.opencl_files.specs.declared.fronts.Gathered.{Gathered}
 use Rattle.opencl_files.specs.declared.tree.Parameter.{Parameter}
 use Rattle.opencl_files.specs.declared.tree.Header.{Header}
@@ -177,6 +179,10 @@ body b = statements b.items
 abbrev pub function : Header × Vec Stmt Global → trees.Header × tree.Statements
 function f = (header f.0, body f.1)
 
+-- what constants are put into
+abbrev pub place_seen : Place → constants.Room
+place_seen p = record { head = lexemes p.head.now; most = p.most }
+
 -- what stands before a kernel
 abbrev pub enumerator : Enumerator → trees.Enumerator
 enumerator e = record { site = site e.site; name = string_bytes e.name; value = maybe e.value }
@@ -190,6 +196,7 @@ gathered g = record {
   aliases = map declaration g.aliases.items;
   enumerations = map enumerators g.enumerations.items;
   functions = map function g.functions.items;
+  constants = chunks g.constants.items;
 }
 
 abbrev pub kernel_text : KernelText → trees.KernelText

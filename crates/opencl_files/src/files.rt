@@ -6,6 +6,7 @@ ghost use Rattle.opencl_files.specs.Files as files;
 ghost use Rattle.opencl_files.specs.View.{Answers, gathered as gathered_seen, kernel as kernel_seen, kernel_text as kernel_text_seen};
 
 use crate::chunks::cut_file;
+use crate::constants::with_constants;
 use crate::errors::{FileError, FileFault};
 use crate::fronts::{Gathered, gather};
 use crate::functions::{Ends, Kernel, chosen, kernels};
@@ -23,7 +24,8 @@ fn text_with(
 ) -> Result<KernelText, FileError>
     ensures { Answers kernel_text_seen result (files.text_with (gathered_seen gathered.entry) (lexemes tokens.now)) }
 {
-    match function(alloc, gathered.known.as_slice(), tokens) {
+    let tokens = with_constants(alloc, &gathered.constants, tokens)?;
+    match function(alloc, gathered.known.as_slice(), &tokens) {
         Ok(((header, body), _)) => Ok(KernelText {
             header,
             body,

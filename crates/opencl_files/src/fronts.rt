@@ -12,6 +12,7 @@ ghost use Rattle.opencl_files.specs.Headers as functions;
 ghost use Rattle.opencl_files.specs.View.{chunk as chunk_seen, chunks as chunks_seen, enumerator as enumerator_seen, enumerators as enumerators_seen, gathered as gathered_seen};
 
 use crate::chunks::Chunk;
+use crate::constants::with_constants;
 use crate::functions::function_in;
 use crate::headers::function;
 use crate::tree::{Enumerator, Header};
@@ -31,13 +32,18 @@ use std::alloc::{AllocError, Global};
 /// At most so many names of types, and functions, are heeded.
 const MOST_HEEDED: usize = 1_024;
 
-/// What was read: the names that are types, their declarations, the enumerations, and the functions.
+/// At most so many constants are heeded.
+const MOST_CONSTANTS: usize = 256;
+
+/// What was read: the names that are types, their declarations, the enumerations, and the functions; and the constants, as they are
+/// written.
 #[derive(Drop)]
 pub struct Gathered<'a> {
     pub known: Vec<Known<'a>>,
     pub aliases: Vec<Declaration>,
     pub enumerations: Vec<Vec<Enumerator>>,
     pub functions: Vec<(Header, Vec<Stmt>)>,
+    pub constants: Vec<Chunk<'a>>,
 }
 
 // Behind `typedef`.
@@ -216,10 +222,10 @@ fn typed<'a>(
 }
 
 #[tactic(auto, using(crate::proofs::FrontSteps::front_steps))]
-fn with_function<'a>(
+fn with_function<'a, 'b>(
     alloc: Global,
     so: &mut Gathered<'a>,
-    tokens: &'a [Lexeme<'a>],
+    tokens: &'b [Lexeme<'b>],
 ) -> Result<(), AllocError>
     ensures { IfOk result (λ x. gathered_seen so.new ≡ reads.with_function (gathered_seen so.old) (run (functions.function (all_known so.old.known.items)) (lexemes tokens.now))) }
 {
@@ -241,10 +247,20 @@ fn performed<'a>(
     ensures { IfOk result (λ x. gathered_seen so.new ≡ reads.performed (gathered_seen so.old) (lexemes tokens.now)) }
 {
     if so.functions.len() < MOST_HEEDED {
-        with_function(alloc, so, tokens)
+        let tokens = with_constants(alloc, &so.constants, tokens)?;
+        with_function(alloc, so, &tokens)
     } else {
         Ok(())
     }
+}
+
+fn with_constant<'a>(so: &mut Gathered<'a>, chunk: Chunk<'a>) -> Result<(), AllocError>
+    ensures { IfOk result (λ x. gathered_seen so.new ≡ reads.with_constant (gathered_seen so.old) (chunk_seen chunk.entry)) }
+{
+    if so.constants.len() < MOST_CONSTANTS {
+        so.constants.push(chunk)?;
+    }
+    Ok(())
 }
 
 fn is_function(chunk: Chunk<'_>) -> bool
@@ -259,6 +275,7 @@ fn with_chunk<'a>(alloc: Global, so: &mut Gathered<'a>, chunk: Chunk<'a>) -> Res
 {
     match kind_at(chunk.lexemes) {
         LexemeKind::Word(Word::Typedef) => typed(alloc, so, chunk.lexemes),
+        LexemeKind::Word(Word::Constant) => with_constant(so, chunk),
         LexemeKind::Word(Word::Enum) => with_enumeration(alloc, so, behind(chunk.lexemes)),
         _ => {
             if is_function(chunk) {
@@ -280,6 +297,7 @@ pub fn gather<'a>(alloc: Global, chunks: &[Chunk<'a>]) -> Result<Gathered<'a>, A
         aliases: Vec::new(alloc),
         enumerations: Vec::new(alloc),
         functions: Vec::new(alloc),
+        constants: Vec::new(alloc),
     };
     for chunk in chunks {
         with_chunk(alloc, &mut so, *chunk)?;

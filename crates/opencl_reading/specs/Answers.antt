@@ -16,6 +16,7 @@ use Rattle.opencl_files.specs.View as files
 use Rattle.opencl_files.specs.declared.errors.FileError.TheVariants as file_errors
 use Rattle.opencl_values.specs.View as values
 use Rattle.opencl_values.specs.declared.error.ValueError.TheVariants as value_errors
+use Rattle.opencl_values.specs.declared.error.Construct.TheVariants as constructs
 use Rattle.opencl_values.specs.declared.error.Fault.TheVariants as value_faults
 use Rattle.core_code.specs.declared.tree.Site.{Site as Site_seen}
 use Rattle.opencl_core.specs.Kernels.{Written}
@@ -86,6 +87,10 @@ error_place e = None
 -- the error of what is too many or too large
 abbrev pub too_many : Site_seen → OpenClError
 too_many s = errors.Core (value_errors.At value_faults.TooMany s)
+
+-- the error of a file with overloaded functions
+abbrev pub overloaded : Site_seen → OpenClError
+overloaded s = errors.Core (value_errors.At (value_faults.LeftOut constructs.Outside) s)
 
 -- the names that a file declares beside its kernel
 abbrev pub outside : FileText → List Binding

@@ -32,6 +32,7 @@ use Rattle.opencl_reading.specs.FileNames.{outside_of}
 use Rattle.opencl_reading.specs.FileTypes.{meant_in}
 use Rattle.opencl_reading.specs.HeadRules.{are_same_sizes, are_locals, as_count}
 use Rattle.opencl_reading.specs.Kinds.{are_same}
+use Rattle.opencl_reading.specs.Overloads.{first_overloading}
 
 -- `NoSizes`: neither the kernel nor the head says how large its work-groups are; `OtherSizes`: both do, and differ; `NoSuchLocal`: the head
 -- gives a length to a name that no `__local` parameter has, or twice to one
@@ -113,8 +114,12 @@ same fault = fault
 abbrev pub with_head : (ids : Kind) → (outside : List Binding) → Head → KernelText → Read
 with_head ids outside h t = on same (agreed t.header.site t.header.sizes h.sizes) (with_sizes ids outside t h)
 
+abbrev pub of_file : (ids : Kind) → Head → List Lexeme → (overloading : Option Site) → Read
+of_file ids h ts None = on OfFile (chosen_kernel h.kernel ts) (with_head ids (outside_of ts) h)
+of_file ids h ts (Some at) = Err (OfCore (cores.LeftOut cores.Outside), at)
+
 abbrev pub of_lexemes : (ids : Kind) → Head → List Lexeme → Read
-of_lexemes ids h ts = on OfFile (chosen_kernel h.kernel ts) (with_head ids (outside_of ts) h)
+of_lexemes ids h ts = of_file ids h ts (first_overloading ts)
 
 -- a fault of directives and macros
 abbrev pub placed : {A : Type 0} → Result A Site → Result A (texts.TextFault × Site)

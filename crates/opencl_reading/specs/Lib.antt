@@ -5,3 +5,4 @@ pub mod FileTypes
 pub mod HeadRules
 pub mod Kernels
 pub mod Kinds
+pub mod Overloads

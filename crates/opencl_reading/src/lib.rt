@@ -20,7 +20,7 @@ ghost use Rattle.opencl_core.specs.Kernels as core_rules;
 ghost use Rattle.opencl_core.specs.View as cores;
 ghost use Rattle.opencl_reading.specs.Kernels as kernels;
 ghost use Rattle.opencl_reading.specs.Kernels.{read};
-ghost use Rattle.opencl_reading.specs.Answers.{Gives, outside, too_many as too_many_seen};
+ghost use Rattle.opencl_reading.specs.Answers.{Gives, outside, overloaded as overloaded_seen, too_many as too_many_seen};
 
 mod defines;
 pub mod error;
@@ -28,6 +28,7 @@ mod file_types;
 mod heads;
 mod kinds;
 mod names;
+mod overloads;
 
 use crate::defines::{joined_lines, tokens_behind};
 use crate::error::OpenClError;
@@ -35,6 +36,7 @@ use crate::file_types::push_meant;
 use crate::heads::{agreed, are_locals, counts};
 use crate::kinds::tells_parameters;
 use crate::names::{names_in, unread};
+use crate::overloads::first_overloading;
 use bumpalo::Bump;
 use core_code::tree::Site;
 use kernel_names::site_at;
@@ -45,7 +47,7 @@ use opencl_files::files::chosen_kernel;
 use opencl_files::tree::KernelText;
 use opencl_macros::{MacroError, preprocessed};
 use opencl_tokens::{Joined, Lexeme, TextFault, Token, TokenError, join, lexemes, tokens};
-use opencl_values::error::{Fault, ValueError};
+use opencl_values::error::{Construct, Fault, ValueError};
 use opencl_values::scope::Binding;
 use sound_cores::sound::is_sound;
 use sound_cores::unset::first_unset;
@@ -212,6 +214,16 @@ fn with_head(
     with_sizes(alloc, ids, file, head, sizes)
 }
 
+/// The fault of a file with overloaded functions.
+fn overloaded(at: Site) -> OpenClError
+    ensures { result ≡ overloaded_seen at }
+{
+    OpenClError::Core(ValueError::At {
+        fault: Fault::LeftOut(Construct::Outside),
+        site: at,
+    })
+}
+
 /// The kernel of a file's lexemes: the one that the head names, or the only one.
 fn of_lexemes(
     alloc: Global,
@@ -221,6 +233,9 @@ fn of_lexemes(
 ) -> Result<Typed, OpenClError>
     ensures { Gives result (kernels.of_lexemes (kind_seen ids) (head_seen head.now) (lexemes_seen tokens.now)) }
 {
+    if let Some(at) = first_overloading(tokens) {
+        return Err(overloaded(at));
+    }
     match chosen_kernel(alloc, head.kernel, tokens) {
         Ok(text) => {
             let names = names_in(alloc, tokens)?;

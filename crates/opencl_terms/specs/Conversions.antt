@@ -123,9 +123,6 @@ stored Uint site t = t
 stored Size site t = t
 stored Float site t = t
 
--- the same bits as another type (6.2.4): an `int` of the bits of a `uint`, and the other way; both never fail
-abbrev pub bits_as_int : Site → Term → Term
-bits_as_int site t = Binary word.BitOr word.Int site t (int 0)
-
+-- the `uint` that has the bits of an `int` (6.2.4)
 abbrev pub bits_as_uint : Site → Term → Term
 bits_as_uint site t = Convert word.Uint site t

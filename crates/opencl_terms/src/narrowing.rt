@@ -100,20 +100,6 @@ pub fn stored(alloc: Global, to: Scalar, at: Site, of: Term) -> Result<Term, All
     }
 }
 
-/// The `int` that has the bits of a `uint` (6.2.4.2).
-pub fn bits_as_int(alloc: Global, at: Site, of: Term) -> Result<Term, AllocError>
-    ensures { IfOk result (λ t. term t ≡ rules.bits_as_int (site at) (term of)) }
-{
-    binary(
-        alloc,
-        Operator::BitOr,
-        Kind::Int,
-        at,
-        of,
-        literal(Kind::Int, 0),
-    )
-}
-
 /// The `uint` that has the bits of an `int` (6.2.4.2).
 pub fn bits_as_uint(alloc: Global, at: Site, of: Term) -> Result<Term, AllocError>
     ensures { IfOk result (λ t. term t ≡ rules.bits_as_uint (site at) (term of)) }

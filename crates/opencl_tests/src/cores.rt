@@ -86,6 +86,12 @@ const DRAWN: &[(&str, &str, &str, &str)] = &[
         "buffer Int value Int Int {1v1=Int:0;2v1=(+ Int v1 v0);3g0[(+ Int v1 Int:0)]=Int:3;}",
         "a 2-3, 1@1:15 2@1:1 3@1:9 ",
     ),
+    (
+        "__global uchar *a; }",
+        "*(__global ushort *)(a + 2) += 1; }",
+        "buffer Uint Uint Int {1v0=(+ Uint (to Uint (within 2147483648 (+ Int Int:2 (* Int Int:0 Int:2)))) (within 1 (& Uint (to Uint (+ Int Int:2 (* Int Int:0 Int:2))) Uint:1)));2v1=(to Int (& Uint (to Uint (+ Int (to Int (& Uint (| Uint (& Uint (load g0 (+ Uint v0 Uint:0)) Uint:255) (shl Uint (& Uint (load g0 (+ Uint v0 Uint:1)) Uint:255) Uint:8)) Uint:65535)) Int:1)) Uint:65535));3g0[(+ Uint v0 Uint:0)]=(& Uint (to Uint v1) Uint:255);4g0[(+ Uint v0 Uint:1)]=(& Uint (shr Uint (to Uint v1) Uint:8) Uint:255);}",
+        "_ 1-0, _ 1-0, 1@1:1 2@1:1 3@1:1 4@1:1 ",
+    ),
 ];
 
 /// Whether a function `f` returns an `int`, its parameters and its body; a kernel that calls it, with its core, or its fault.

@@ -110,7 +110,10 @@ const EXPRESSIONS: &[(&str, &str)] = &[
     ),
     ("convert_uchar_sat(i)", "Uchar (min (max v0 Int:0) Int:255)"),
     ("convert_int_rtz(f)", "Int (opaque5 Int v2 Uint:0)"),
-    ("as_int(f)", "Int (| Int v2 Int:0)"),
+    (
+        "as_int(f)",
+        "Int (+ Int (* Int (- Int (^ Int (to Int (& Uint (shr Uint v2 Uint:16) Uint:65535)) Int:32768) Int:32768) Int:65536) (to Int (& Uint v2 Uint:65535)))",
+    ),
     ("as_int(c)", "22 1:1"),
     (
         "sqrt(i)",

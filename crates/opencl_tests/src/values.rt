@@ -2,11 +2,12 @@
 use crate::term_shown::push_term;
 use core_code::tree::{Direction, Operator, Relation, Site, Term};
 use opencl_terms::conversions::{converted, tested, truth};
-use opencl_terms::narrowing::{bits_as_int, bits_as_uint, loaded, stored};
+use opencl_terms::narrowing::{bits_as_uint, loaded, stored};
 use opencl_terms::operators::{
     OfOne, OfTwo, may_take, of_one_component, of_two_components, result_type, test_type,
 };
 use opencl_terms::scalars::{Scalar, ValueType, common};
+use opencl_values::bits::bits_as_int;
 use std::alloc::{AllocError, Global};
 use std::test::Fail;
 use words::Kind;
@@ -51,7 +52,10 @@ fn elements_are_low_bits(rt: HostRuntime) -> Result<(), Fail> {
 fn bits_stay(rt: HostRuntime) -> Result<(), Fail> {
     let alloc = rt.alloc();
     let found = shown(alloc, bits_as_int(alloc, AT, variable(0)))?;
-    assert_eq!(rt; found.as_str(), "(| Int v0 Int:0)");
+    assert_eq!(rt;
+        found.as_str(),
+        "(+ Int (* Int (- Int (^ Int (to Int (& Uint (shr Uint v0 Uint:16) Uint:65535)) Int:32768) Int:32768) Int:65536) (to Int (& Uint v0 Uint:65535)))"
+    );
     let found = shown(alloc, bits_as_uint(alloc, AT, variable(0)))?;
     assert_eq!(rt; found.as_str(), "(to Uint v0)");
     Ok(())

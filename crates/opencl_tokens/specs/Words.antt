@@ -7,7 +7,7 @@ pub data Word : Type 0 where
   Void Unsigned Signed Char Short Int Long Float Double Half : Word
   If Else While Do For Switch Case Default Break Continue Return Goto Sizeof : Word
 
--- how each is written: the qualifiers of spaces and of access in two ways, and two words as compilers have them besides
+-- how each is written: the qualifiers of spaces and of access in two ways, and some words as compilers have them besides
 unfoldable pub words : List (List ℕ × Word)
 words =
     (codes "__kernel", Kernel) ∷ (codes "kernel", Kernel) ∷ (codes "__global", Global) ∷ (codes "global", Global)
@@ -22,4 +22,6 @@ words =
     ∷ (codes "long", Long) ∷ (codes "float", Float) ∷ (codes "double", Double) ∷ (codes "half", Half) ∷ (codes "if", If)
     ∷ (codes "else", Else) ∷ (codes "while", While) ∷ (codes "do", Do) ∷ (codes "for", For) ∷ (codes "switch", Switch)
     ∷ (codes "case", Case) ∷ (codes "default", Default) ∷ (codes "break", Break) ∷ (codes "continue", Continue) ∷ (codes "return", Return)
-    ∷ (codes "goto", Goto) ∷ (codes "sizeof", Sizeof) ∷ []
+    ∷ (codes "goto", Goto) ∷ (codes "sizeof", Sizeof) ∷ (codes "__const", Const) ∷ (codes "__const__", Const)
+    ∷ (codes "__restrict__", Restrict) ∷ (codes "__inline__", Inline) ∷ (codes "__volatile", Volatile) ∷ (codes "__volatile__", Volatile)
+    ∷ (codes "__signed", Signed) ∷ (codes "__signed__", Signed) ∷ []

@@ -74,7 +74,7 @@ pub enum Scalar {
 }
 
 /// The spellings of words.
-static WORDS: [(&[u8], Word); 54] = [
+static WORDS: [(&[u8], Word); 62] = [
     (b"__kernel", Word::Kernel),
     (b"kernel", Word::Kernel),
     (b"__global", Word::Global),
@@ -129,6 +129,14 @@ static WORDS: [(&[u8], Word); 54] = [
     (b"return", Word::Return),
     (b"goto", Word::Goto),
     (b"sizeof", Word::Sizeof),
+    (b"__const", Word::Const),
+    (b"__const__", Word::Const),
+    (b"__restrict__", Word::Restrict),
+    (b"__inline__", Word::Inline),
+    (b"__volatile", Word::Volatile),
+    (b"__volatile__", Word::Volatile),
+    (b"__signed", Word::Signed),
+    (b"__signed__", Word::Signed),
 ];
 
 /// The types that one word names, each with its scalar and its width.

@@ -1,17 +1,19 @@
 -- Elements of arrays by their indexes (C99 6.5.2.1).
-use Rattle.std.specs.Prelude.{ℕ, List, [], ◌∷◌, Bool, cond, Option, Some, None, Ok}
+use Rattle.std.specs.Prelude.{ℕ, ◌-◌, List, [], ◌∷◌, Bool, cond, nat_eq, nat_le, Option, Some, None, Ok}
 use Rattle.semantics.specs.Word as word
 use Rattle.semantics.specs.Core.{Site, Array, Term, Variable, Load, Binary, Convert, Within}
 use Rattle.opencl_terms.specs.Types.{Scalar, Uint, Size, ValueType, Value, is_float, is_vector}
-use Rattle.opencl_terms.specs.Conversions.{uint, loaded}
+use Rattle.opencl_terms.specs.Conversions.{int, uint, masked, loaded}
 use Rattle.opencl_values.specs.Faults.{Checked, WrongType, LeftOut, Pointer, Outside, refused, then}
 use Rattle.opencl_values.specs.Scope.{Meaning, VariableOf, ArrayOf, OwnOf, PointerOf, NumberOf, TypeOf, UnreadOf}
 use Rattle.opencl_values.specs.Singles.{Single, single}
 use Rattle.opencl_values.specs.Wholes.{whole, words, vectors_below}
 use Rattle.opencl_values.specs.Vectors.{Loaded, vector_made}
+use Rattle.opencl_values.specs.Views.{pieces, view_loaded}
 
 -- an array, of which some dimensions have an index: the lengths of the others, where they begin in it, and, of a pointer, its offset, an
--- `int`, to which the next index is added
+-- `int`, to which the next index is added. Where a buffer's elements are seen as ones of another type, `over` is the buffer's scalar, of
+-- which the offset counts elements
 pub record Part : Type 0 where
   pub array : Array
   pub element : ValueType
@@ -19,16 +21,20 @@ pub record Part : Type 0 where
   pub lengths : List ℕ
   pub index : Option Term
   pub offset : Option Term
+  pub over : Option Scalar
 
--- an element, by its index in the whole array; a vector by that of its first component
+-- an element, by its index in the whole array; a vector by that of its first component, and what is seen as another type by that of the
+-- first element under it
 pub record Element : Type 0 where
   pub array : Array
   pub element : ValueType
   pub is_constant : Bool
   pub index : Term
+  pub over : Option Scalar
 
-abbrev pub part : Array → ValueType → (is_constant : Bool) → (lengths : List ℕ) → (index offset : Option Term) → Part
-part a t constant lengths index offset = record { array = a; element = t; is_constant = constant; lengths = lengths; index = index; offset = offset }
+abbrev pub part : Array → ValueType → (is_constant : Bool) → (lengths : List ℕ) → (index offset : Option Term) → (over : Option Scalar) → Part
+part a t constant lengths index offset over =
+    record { array = a; element = t; is_constant = constant; lengths = lengths; index = index; offset = offset; over = over }
 
 -- a private array's own length and row
 abbrev pub lengths_of : Option (ℕ × Term) → List ℕ
@@ -40,9 +46,9 @@ row_of None = None
 row_of (Some r) = Some r.1
 
 abbrev pub part_meant : Site → Meaning → Checked Part
-part_meant site (ArrayOf a t lengths constant) = Ok (part a t constant lengths None None)
-part_meant site (OwnOf a t lengths constant row) = Ok (part a t constant lengths (Some row) None)
-part_meant site (PointerOf a t constant row slot) = Ok (part a t constant (lengths_of row) (row_of row) (Some (Variable slot)))
+part_meant site (ArrayOf a t lengths constant) = Ok (part a t constant lengths None None None)
+part_meant site (OwnOf a t lengths constant row) = Ok (part a t constant lengths (Some row) None None)
+part_meant site (PointerOf a t constant row over slot) = Ok (part a t constant (lengths_of row) (row_of row) (Some (Variable slot)) over)
 part_meant site (VariableOf t slot constant) = refused WrongType site
 part_meant site (NumberOf bits) = refused WrongType site
 part_meant site (TypeOf t) = refused WrongType site
@@ -85,13 +91,22 @@ with_index site p t = then (one_index site p.lengths p.index t) (λ rest. Ok (pa
 abbrev pub as_offset : Site → Single → Term
 as_offset site v = offset_as site v.scalar v.term
 
+-- so many elements of a type, by what an offset counts
+abbrev pub times_pieces : Site → (count : ℕ) → Term → Term
+times_pieces site n k = cond (nat_eq n 1) k (Binary word.Multiply word.Int site k (int n))
+
+abbrev pub steps : Site → (over : Option Scalar) → ValueType → Term → Term
+steps site None t k = k
+steps site (Some a) t k = times_pieces site (pieces a t) k
+
 -- behind an offset an index counts from there (6.5.6p8)
-abbrev pub from_offset : Site → Option Term → Single → Term
-from_offset site None i = i.term
-from_offset site (Some o) i = Binary word.Add word.Int site o (as_offset site i)
+abbrev pub from_offset : Site → (over : Option Scalar) → ValueType → (offset : Option Term) → Single → Term
+from_offset site over t None i = i.term
+from_offset site over t (Some o) i = Binary word.Add word.Int site o (steps site over t (as_offset site i))
 
 abbrev pub indexed : Site → Part → Single → Checked Part
-indexed site p i = cond (is_float i.scalar) (refused WrongType site) (with_index site p (from_offset site p.offset i))
+indexed site p i =
+    cond (is_float i.scalar) (refused WrongType site) (with_index site p (from_offset site p.over p.element p.offset i))
 
 -- the elements of vectors stand one behind the other (6.1.5): this is the index of the first one
 abbrev pub in_vector : Site → (words : ℕ) → Term → Term
@@ -100,9 +115,27 @@ in_vector site n t = Binary word.Multiply word.Uint site (in_dimension site (vec
 abbrev pub first_word : Site → ValueType → Term → Term
 first_word site t i = cond (is_vector t) (in_vector site (words t.width) i) i
 
+-- what is seen as another type has to be in its place: buffers begin at a multiple of each type's size, and of the elements that lie under
+-- it the first has a number that is a multiple of how many these are (6.3.2.3p7). None of them has an index of more than 32 bits
+abbrev pub in_place : Site → (count : ℕ) → Term → Term
+in_place site n t = Within site 1 (masked site (n - 1) (Convert word.Uint site t))
+
+abbrev pub in_view : Site → (count : ℕ) → Term → Term
+in_view site n t =
+    cond (nat_le n 1) (in_dimension site 2147483648 t)
+    (Binary word.Add word.Uint site (in_dimension site 2147483648 t) (in_place site n t))
+
+abbrev pub first_in_memory : Site → (over : Option Scalar) → ValueType → Term → Term
+first_in_memory site None t i = first_word site t i
+first_in_memory site (Some a) t i = in_view site (pieces a t) i
+
+abbrev pub whole_element : Site → Part → Term → Element
+whole_element site p t =
+    record { array = p.array; element = p.element; is_constant = p.is_constant; index = first_in_memory site p.over p.element t; over = p.over }
+
 -- a row of an array is a pointer to its first element (6.3.2.1p3)
 abbrev pub whole_part : Site → Part → (lengths : List ℕ) → Option Term → Checked Element
-whole_part site p [] (Some t) = Ok (record { array = p.array; element = p.element; is_constant = p.is_constant; index = first_word site p.element t })
+whole_part site p [] (Some t) = Ok (whole_element site p t)
 whole_part site p lengths t = refused (LeftOut Pointer) site
 
 abbrev pub element_in : Site → Part → Checked Element
@@ -118,5 +151,9 @@ scalar_loaded site e = whole (single e.element.scalar (loaded_as site e.array e.
 abbrev pub vector_loaded : Site → Element → Value
 vector_loaded site e = vector_made word.Uint site (Loaded e.array e.element.scalar e.index) e.element
 
+abbrev pub loaded_over : Site → (over : Option Scalar) → Element → Value
+loaded_over site None e = cond (is_vector e.element) (vector_loaded site e) (scalar_loaded site e)
+loaded_over site (Some a) e = view_loaded site e.array a e.element e.index
+
 abbrev pub loaded_from : Site → Element → Value
-loaded_from site e = cond (is_vector e.element) (vector_loaded site e) (scalar_loaded site e)
+loaded_from site e = loaded_over site e.over e

@@ -6,6 +6,7 @@ use Rattle.core_code.specs.View.{array, term}
 use Rattle.core_code.specs.declared.tree.Term.{Term}
 use Rattle.opencl_terms.specs.Answers.{value_type}
 use Rattle.opencl_values.specs.Elements as elements
+use Rattle.opencl_values.specs.View.{maybe_scalar}
 use Rattle.opencl_values.specs.declared.elements.Part.{Part}
 use Rattle.opencl_values.specs.declared.elements.Element.{Element}
 
@@ -25,7 +26,9 @@ part p = record {
   lengths = p.lengths.now;
   index = maybe_term p.index;
   offset = maybe_term p.offset;
+  over = maybe_scalar p.over;
 }
 
 abbrev pub element : Element → elements.Element
-element e = record { array = array e.array; element = value_type e.element; is_constant = e.is_constant; index = term e.index }
+element e =
+    record { array = array e.array; element = value_type e.element; is_constant = e.is_constant; index = term e.index; over = maybe_scalar e.over }

@@ -30,6 +30,8 @@ form forms.Sum24 = functions.Sum24
 form forms.Scaled = functions.Scaled
 form forms.FromBits = functions.FromBits
 form forms.Exponent = functions.Exponent
+form forms.Selects = functions.Selects
+form forms.Shuffles = functions.Shuffles
 form (forms.Missing c) = functions.Missing (construct c)
 
 -- an entry of a table of functions, and of one of beginnings

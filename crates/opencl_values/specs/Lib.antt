@@ -1,5 +1,7 @@
+pub mod Bits
 pub mod Calls
 pub mod CallsView
+pub mod Choices
 pub mod Constants
 pub mod ConstantsView
 pub mod Elements
@@ -20,6 +22,7 @@ pub mod VectorCalls
 pub mod Vectors
 pub mod VectorsView
 pub mod View
+pub mod Views
 pub mod Wholes
 pub mod Widened
 pub mod WidenedView

@@ -29,7 +29,7 @@ abbrev pub type_meant : Site → Meaning → Checked ValueType
 type_meant site (VariableOf t slot constant) = refused WrongType site
 type_meant site (ArrayOf a t lengths constant) = refused WrongType site
 type_meant site (OwnOf a t lengths constant row) = refused WrongType site
-type_meant site (PointerOf a t constant row slot) = refused WrongType site
+type_meant site (PointerOf a t constant row over slot) = refused WrongType site
 type_meant site (NumberOf bits) = refused WrongType site
 type_meant site (TypeOf t) = Ok t
 type_meant site UnreadOf = refused (LeftOut Outside) site

@@ -4,7 +4,8 @@ use Rattle.semantics.specs.Word as word
 use Rattle.semantics.specs.Word.{Kind}
 use Rattle.semantics.specs.Core.{Site, Term, Unary, Convert, Minimum, Maximum}
 use Rattle.opencl_terms.specs.Types.{Scalar, Boolean, Char, Uchar, Short, Ushort, Int, Uint, Size, Float, bits_in}
-use Rattle.opencl_terms.specs.Conversions.{int, uint, converted, bits_as_int, bits_as_uint}
+use Rattle.opencl_terms.specs.Conversions.{int, uint, converted, bits_as_uint}
+use Rattle.opencl_values.specs.Bits.{bits_as_int}
 use Rattle.opencl_terms.specs.Operations as operations
 
 -- the greatest number of a scalar that has no more than an `int`

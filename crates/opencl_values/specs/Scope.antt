@@ -2,20 +2,21 @@
 use Rattle.std.specs.Prelude.{ℕ, List, [], ◌∷◌, Bool, cond, Option, Some, None, bytes_eq}
 use Rattle.semantics.specs.Word.{Kind}
 use Rattle.semantics.specs.Core.{Site, Array, Term}
-use Rattle.opencl_terms.specs.Types.{ValueType}
+use Rattle.opencl_terms.specs.Types.{Scalar, ValueType}
 use Rattle.opencl_effects.specs.Marks as marks
 use Rattle.opencl_effects.specs.Marks.{Mark}
 
 -- a variable has a slot; an array has the lengths of its dimensions, the outermost first, of which a buffer has none. A private array is a
 -- row of a local array, which has one for each item of a group: `lengths` are those of the dimensions of the row. A pointer is an array
--- with an offset, an `int` that its slot has; where that is a private array it has its length and its row, too. A number is an
--- enumeration's constant, an `int` of these 32 bits; a type is a name that a `typedef` made. What the file declares beside the kernel is
--- not read: such a name has no meaning of its own, but hides built-in functions and constants
+-- with an offset, an `int` that its slot has; where that is a private array it has its length and its row, too; where a buffer's elements
+-- are seen as ones of another type, `over` is the buffer's scalar. A number is an enumeration's constant, an `int` of these 32 bits; a type
+-- is a name that a `typedef` made. What the file declares beside the kernel is not read: such a name has no meaning of its own, but hides
+-- built-in functions and constants
 pub data Meaning : Type 0 where
   VariableOf : (type : ValueType) (slot : ℕ) (is_constant : Bool) → Meaning
   ArrayOf : (array : Array) (element : ValueType) (lengths : List ℕ) (is_constant : Bool) → Meaning
   OwnOf : (array : Array) (element : ValueType) (lengths : List ℕ) (is_constant : Bool) (row : Term) → Meaning
-  PointerOf : (array : Array) (element : ValueType) (is_constant : Bool) (row : Option (ℕ × Term)) (slot : ℕ) → Meaning
+  PointerOf : (array : Array) (element : ValueType) (is_constant : Bool) (row : Option (ℕ × Term)) (over : Option Scalar) (slot : ℕ) → Meaning
   NumberOf : (bits : ℕ) → Meaning
   TypeOf : (type : ValueType) → Meaning
   UnreadOf : Meaning

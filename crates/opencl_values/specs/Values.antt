@@ -21,7 +21,7 @@ use Rattle.opencl_values.specs.Elements.{Part, Element, part_meant}
 use Rattle.opencl_values.specs.Reads.{indexed_by, element_at, element_value, vector_at}
 use Rattle.opencl_values.specs.Widened.{Wide, wide_named, read_width}
 use Rattle.opencl_values.specs.Functions.{Form, form_named, construct_called}
-use Rattle.opencl_values.specs.Pointers.{is_indirection, is_address, moving, is_behind, shifted_by, first_element}
+use Rattle.opencl_values.specs.Pointers.{is_indirection, is_address, moving, is_behind, shifted_by, first_element, type_pointed, converted_part, null_compared, null_value}
 use Rattle.opencl_values.specs.VectorCalls.{called, wide_result}
 
 -- a variable has a slot for each component, one behind the other
@@ -33,7 +33,7 @@ abbrev pub value_meant : Site → Meaning → Checked Value
 value_meant site (VariableOf t slot constant) = Ok (variable_value site t slot)
 value_meant site (ArrayOf a t lengths constant) = refused (LeftOut Pointer) site
 value_meant site (OwnOf a t lengths constant row) = refused (LeftOut Pointer) site
-value_meant site (PointerOf a t constant row slot) = refused (LeftOut Pointer) site
+value_meant site (PointerOf a t constant row over slot) = refused (LeftOut Pointer) site
 value_meant site (NumberOf bits) = Ok (whole (number_value site Int bits))
 value_meant site (TypeOf t) = refused WrongType site
 value_meant site UnreadOf = refused (LeftOut Outside) site
@@ -56,6 +56,11 @@ kept_or site otherwise None = otherwise
 
 abbrev pub with_effect : Names → Sort → Site → Checked Value
 with_effect names sort site = kept_or site (refused (LeftOut Effect) site) (drawn_at names sort site)
+
+-- a comparison with a null pointer, or else another value
+abbrev pub null_or : Option ℕ → Checked Value → Checked Value
+null_or (Some n) otherwise = Ok (null_value n)
+null_or None otherwise = otherwise
 
 -- `&&` and `||` may have effects in their right operand, as `?:` in its arms
 abbrev pub drawn_for : Names → InfixSign → Site → Option Drawn
@@ -110,7 +115,8 @@ unfoldable mutual
   value_of names (Vector site to parts) =
       then (type_of_name names.visible to site) (λ t. then (values_behind names [] parts) (literal_of names.ids site t))
   value_of names (Infix site sign left right) =
-      kept_or site (then (value_of names left) (λ l. then (value_of names right) (infix_of names.ids sign site l))) (drawn_for names sign site)
+      null_or (null_compared names sign left right)
+      (kept_or site (then (value_of names left) (λ l. then (value_of names right) (infix_of names.ids sign site l))) (drawn_for names sign site))
   value_of names (Conditional site test taken skipped) =
       kept_or site (then (value_of names test) (λ t. then (value_of names taken) (λ a. then (value_of names skipped) (conditional_of names.ids site t a)))) (drawn_at names OfChoice site)
   value_of names (Assign site sign target value) = with_effect names OfAssign site
@@ -139,6 +145,8 @@ unfoldable mutual
       cond (is_behind names op left) (then (part_of names site right) (λ p. then (value_of names left) (shifted_by site op p)))
       (then (part_of names site left) (λ p. then (value_of names right) (shifted_by site op p))))
   part_of names bracket (Prefix site sign e) = cond (is_address sign) (addressed names bracket site e) (refused (LeftOut Pointer) bracket)
+  part_of names bracket (Cast site to e) =
+      then (type_pointed names.visible to site) (λ t. then (part_of names site e) (converted_part site to.qualifiers t))
   part_of names bracket e = refused (LeftOut Pointer) bracket
 
   -- a pointer to what an operand is (6.5.3.2)

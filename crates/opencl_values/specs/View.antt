@@ -8,6 +8,7 @@ use Rattle.words.specs.View.{kind}
 use Rattle.opencl_terms.specs.Answers.{value_type}
 use Rattle.opencl_terms.specs.Types as types
 use Rattle.opencl_terms.specs.View.{scalar}
+use Rattle.opencl_terms.specs.declared.scalars.Scalar.{Scalar}
 use Rattle.opencl_effects.specs.View.{mark}
 use Rattle.opencl_values.specs.Singles as singles
 use Rattle.opencl_values.specs.Faults as faults
@@ -78,11 +79,15 @@ abbrev pub maybe_row : Option (ℕ × Term) → Option (ℕ × core.Term)
 maybe_row None = None
 maybe_row (Some r) = Some (r.0, term r.1)
 
+abbrev pub maybe_scalar : Option Scalar → Option types.Scalar
+maybe_scalar None = None
+maybe_scalar (Some s) = Some (scalar s)
+
 abbrev pub meaning : Meaning → scope.Meaning
 meaning (meanings.Variable t slot constant) = scope.VariableOf (value_type t) slot constant
 meaning (meanings.Array a t lengths constant) = scope.ArrayOf (array a) (value_type t) lengths.items constant
 meaning (meanings.Own a t lengths constant row) = scope.OwnOf (array a) (value_type t) lengths.items constant (term row)
-meaning (meanings.Pointer a t constant row slot) = scope.PointerOf (array a) (value_type t) constant (maybe_row row) slot
+meaning (meanings.Pointer a t constant row over slot) = scope.PointerOf (array a) (value_type t) constant (maybe_row row) (maybe_scalar over) slot
 meaning (meanings.Number bits) = scope.NumberOf bits
 meaning (meanings.Type t) = scope.TypeOf (value_type t)
 meaning meanings.Unread = scope.UnreadOf

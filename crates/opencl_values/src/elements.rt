@@ -1,29 +1,31 @@
 //! Elements of arrays by their indexes.
 
-ghost use Rattle.std.specs.Prelude.{◌≡◌, IfOk, Ok, Some, None};
+ghost use Rattle.std.specs.Prelude.{◌≡◌, ◌≤◌, IfOk, Ok, Some, None};
 ghost use Rattle.core_code.specs.View.{array as array_seen, site, term};
 ghost use Rattle.opencl_terms.specs.Answers.{value_type};
 ghost use Rattle.opencl_terms.specs.View.{scalar as scalar_seen};
 ghost use Rattle.opencl_values.specs.Elements as rules;
 ghost use Rattle.opencl_values.specs.ElementsView.{element as element_seen, maybe_term, part as part_seen, rest};
 ghost use Rattle.opencl_values.specs.Faults as faults;
-ghost use Rattle.opencl_values.specs.View.{maybe_row, meaning_in, single, value as value_seen, Gives};
+ghost use Rattle.opencl_values.specs.View.{maybe_row, maybe_scalar, meaning_in, single, value as value_seen, Gives};
 
 use crate::error::{Construct, Fault, ValueError, refused};
 use crate::scope::Meaning;
 use crate::singles::Single;
 use crate::vectors::{Made, vector_made};
+use crate::views::{pieces, view_loaded};
 use crate::wholes::{Value, vectors_below, whole, words};
 use core_code::tree::{Array, Operator, Site, Term};
 use core_pieces::copies::copy_of;
 use core_pieces::pieces::{binary, convert, literal, load, within};
-use opencl_terms::narrowing::loaded;
+use opencl_terms::narrowing::{loaded, masked};
 use opencl_terms::scalars::{Scalar, ValueType};
 use std::alloc::{AllocError, Global};
 use words::Kind;
 
 /// An array, of which some dimensions have an index: the lengths of the others, where they begin in it, and, of a pointer, its offset, to
-/// which the next index is added.
+/// which the next index is added. Where a buffer's elements are seen as ones of another type, `over` is the buffer's scalar, of which the
+/// offset counts elements.
 #[derive(Drop)]
 pub struct Part<'a> {
     pub array: Array,
@@ -32,15 +34,18 @@ pub struct Part<'a> {
     pub lengths: &'a [u32],
     pub index: Option<Term>,
     pub offset: Option<Term>,
+    pub over: Option<Scalar>,
 }
 
-/// An element, by its index in the whole array; a vector by that of its first component.
+/// An element, by its index in the whole array; a vector by that of its first component, and what is seen as another type by that of the
+/// first element under it.
 #[derive(Drop)]
 pub struct Element {
     pub array: Array,
     pub element: ValueType,
     pub is_constant: bool,
     pub index: Term,
+    pub over: Option<Scalar>,
 }
 
 fn row_of(alloc: Global, row: &Option<(u32, Term)>) -> Result<Option<Term>, AllocError>
@@ -69,7 +74,7 @@ fn own<'a>(
     is_constant: bool,
     row: &Term,
 ) -> Result<Part<'a>, AllocError>
-    ensures { IfOk result (λ p. part_seen p ≡ rules.part (array_seen array) (value_type element) is_constant lengths.now (Some (term row.now)) None) }
+    ensures { IfOk result (λ p. part_seen p ≡ rules.part (array_seen array) (value_type element) is_constant lengths.now (Some (term row.now)) None None) }
 {
     Ok(Part {
         array,
@@ -78,6 +83,7 @@ fn own<'a>(
         lengths,
         index: Some(copy_of(alloc, row)?),
         offset: None,
+        over: None,
     })
 }
 
@@ -105,6 +111,7 @@ pub fn part_meant<'a>(
             lengths: lengths.as_slice(),
             index: None,
             offset: None,
+            over: None,
         }),
         Some(
             Meaning::Own {
@@ -128,6 +135,7 @@ pub fn part_meant<'a>(
                 element,
                 is_constant,
                 row,
+                over,
                 slot,
             },
         ) => Ok(Part {
@@ -137,6 +145,7 @@ pub fn part_meant<'a>(
             lengths: lengths_of(row),
             index: row_of(alloc, row)?,
             offset: Some(Term::Variable { slot: *slot }),
+            over: *over,
         }),
         Some(Meaning::Unread) => refused(Fault::LeftOut(Construct::Outside), at),
         Some(_) => refused(Fault::WrongType, at),
@@ -230,6 +239,7 @@ fn with_index<'a>(
         is_constant,
         lengths,
         index: so_far,
+        over,
         ..
     } = of;
     let (lengths, index) = one_index(alloc, at, lengths, so_far, index)?;
@@ -240,6 +250,7 @@ fn with_index<'a>(
         lengths,
         index: Some(index),
         offset: None,
+        over,
     })
 }
 
@@ -253,19 +264,47 @@ pub fn as_offset(alloc: Global, at: Site, of: Single) -> Result<Term, AllocError
     }
 }
 
-fn from_offset(
+fn times_pieces(alloc: Global, at: Site, count: u32, of: Term) -> Result<Term, AllocError>
+    ensures { IfOk result (λ t. term t ≡ rules.times_pieces (site at) count (term of)) }
+{
+    if count == 1 {
+        return Ok(of);
+    }
+    binary(
+        alloc,
+        Operator::Multiply,
+        Kind::Int,
+        at,
+        of,
+        literal(Kind::Int, count),
+    )
+}
+
+/// So many elements of a type, by what an offset counts.
+pub fn steps(
     alloc: Global,
     at: Site,
-    offset: &Option<Term>,
-    index: Single,
+    over: Option<Scalar>,
+    element: ValueType,
+    of: Term,
 ) -> Result<Term, AllocError>
-    ensures { IfOk result (λ t. term t ≡ rules.from_offset (site at) (maybe_term offset.now) (single index)) }
+    ensures { IfOk result (λ t. term t ≡ rules.steps (site at) (maybe_scalar over) (value_type element) (term of)) }
 {
-    match offset {
+    match over {
+        None => Ok(of),
+        Some(over) => times_pieces(alloc, at, pieces(over, element), of),
+    }
+}
+
+fn from_offset(alloc: Global, at: Site, of: &Part<'_>, index: Single) -> Result<Term, AllocError>
+    ensures { IfOk result (λ t. term t ≡ rules.from_offset (site at) (part_seen of.now).over (part_seen of.now).element (part_seen of.now).offset (single index)) }
+{
+    match &of.offset {
         None => Ok(index.term),
         Some(offset) => {
             let offset = copy_of(alloc, offset)?;
             let index = as_offset(alloc, at, index)?;
+            let index = steps(alloc, at, of.over, of.element, index)?;
             binary(alloc, Operator::Add, Kind::Int, at, offset, index)
         }
     }
@@ -283,7 +322,7 @@ pub fn indexed<'a>(
     if index.scalar.is_float() {
         return refused(Fault::WrongType, at);
     }
-    let index = from_offset(alloc, at, &of.offset, index)?;
+    let index = from_offset(alloc, at, &of, index)?;
     with_index(alloc, at, of, index)
 }
 
@@ -312,6 +351,43 @@ fn first_word(alloc: Global, at: Site, of: ValueType, index: Term) -> Result<Ter
     }
 }
 
+// What is seen as another type has to be in its place.
+fn in_place(alloc: Global, at: Site, count: u32, index: Term) -> Result<Term, AllocError>
+    requires { 1 ≤ count }
+    ensures { IfOk result (λ t. term t ≡ rules.in_place (site at) count (term index)) }
+{
+    let index = convert(alloc, Kind::Uint, at, index)?;
+    let low = masked(alloc, at, count - 1, index)?;
+    within(alloc, at, 1, low)
+}
+
+fn in_view(alloc: Global, at: Site, count: u32, index: Term) -> Result<Term, AllocError>
+    ensures { IfOk result (λ t. term t ≡ rules.in_view (site at) count (term index)) }
+{
+    if count <= 1 {
+        return in_dimension(alloc, at, 2_147_483_648, index);
+    }
+    let second = copy_of(alloc, &index)?;
+    let first = in_dimension(alloc, at, 2_147_483_648, index)?;
+    let low = in_place(alloc, at, count, second)?;
+    binary(alloc, Operator::Add, Kind::Uint, at, first, low)
+}
+
+fn first_in_memory(
+    alloc: Global,
+    at: Site,
+    over: Option<Scalar>,
+    of: ValueType,
+    index: Term,
+) -> Result<Term, AllocError>
+    ensures { IfOk result (λ t. term t ≡ rules.first_in_memory (site at) (maybe_scalar over) (value_type of) (term index)) }
+{
+    match over {
+        None => first_word(alloc, at, of, index),
+        Some(over) => in_view(alloc, at, pieces(over, of), index),
+    }
+}
+
 /// The element that an array with all its indexes is.
 pub fn element_in(alloc: Global, at: Site, of: Part<'_>) -> Result<Element, ValueError>
     ensures { Gives element_seen result (rules.element_in (site at) (part_seen of.entry)) }
@@ -322,6 +398,7 @@ pub fn element_in(alloc: Global, at: Site, of: Part<'_>) -> Result<Element, Valu
         is_constant,
         lengths,
         index,
+        over,
         ..
     } = of;
     match (lengths, index) {
@@ -329,7 +406,8 @@ pub fn element_in(alloc: Global, at: Site, of: Part<'_>) -> Result<Element, Valu
             array,
             element,
             is_constant,
-            index: first_word(alloc, at, element, index)?,
+            index: first_in_memory(alloc, at, over, element, index)?,
+            over,
         }),
         _ => refused(Fault::LeftOut(Construct::Pointer), at),
     }
@@ -371,6 +449,9 @@ fn vector_loaded(alloc: Global, at: Site, of: &Element) -> Result<Value, AllocEr
 pub fn loaded_from(alloc: Global, at: Site, of: Element) -> Result<Value, AllocError>
     ensures { IfOk result (λ v. value_seen v ≡ rules.loaded_from (site at) (element_seen of)) }
 {
+    if let Some(over) = of.over {
+        return view_loaded(alloc, at, of.array, over, of.element, &of.index);
+    }
     if of.element.is_vector() {
         vector_loaded(alloc, at, &of)
     } else {

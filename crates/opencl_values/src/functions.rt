@@ -42,11 +42,15 @@ pub enum Form {
     FromBits,
     /// A float, and it gives an `int`.
     Exponent,
+    /// Two values, of which a third one chooses.
+    Selects,
+    /// A vector, and the numbers of its components that it gives.
+    Shuffles,
     Missing(Construct),
 }
 
 /// The functions of OpenCL 1.2, 6.12.2 to 6.12.6.
-static FUNCTIONS: [(&[u8], Form); 140] = [
+static FUNCTIONS: [(&[u8], Form); 142] = [
     (b"min", Form::Lesser),
     (b"max", Form::Greater),
     (b"clamp", Form::Clamped),
@@ -187,6 +191,8 @@ static FUNCTIONS: [(&[u8], Form); 140] = [
     (b"remquo", Form::Missing(Construct::Pointer)),
     (b"sincos", Form::Missing(Construct::Pointer)),
     (b"cross", Form::Spreads(2)),
+    (b"select", Form::Selects),
+    (b"shuffle", Form::Shuffles),
 ];
 
 /// The work-item functions (6.12.1).
@@ -341,8 +347,8 @@ impl Form {
             | Form::Tests(count)
             | Form::Reduces(count)
             | Form::Spreads(count) => count,
-            Form::Lesser | Form::Greater | Form::Product24 | Form::Scaled => 2,
-            Form::Clamped | Form::Sum24 => 3,
+            Form::Lesser | Form::Greater | Form::Product24 | Form::Scaled | Form::Shuffles => 2,
+            Form::Clamped | Form::Sum24 | Form::Selects => 3,
             Form::Missing(_) => 0,
         }
     }

@@ -132,6 +132,7 @@ pub fn copy_of_part<'a>(alloc: Global, of: &Part<'a>) -> Result<Part<'a>, AllocE
         lengths: of.lengths,
         index: copy_of_term(alloc, &of.index)?,
         offset: copy_of_term(alloc, &of.offset)?,
+        over: of.over,
     })
 }
 

@@ -6,10 +6,11 @@ ghost use Rattle.opencl_terms.specs.View.{scalar as scalar_seen};
 ghost use Rattle.opencl_values.specs.Saturation as rules;
 ghost use Rattle.words.specs.View.{kind as kind_seen};
 
+use crate::bits::bits_as_int;
 use core_code::tree::{Site, Term, UnaryOperator};
 use core_pieces::pieces::{convert, literal, maximum, minimum, unary};
 use opencl_terms::conversions::converted;
-use opencl_terms::narrowing::{bits_as_int, bits_as_uint};
+use opencl_terms::narrowing::bits_as_uint;
 use opencl_terms::operations::{Operation, of_one};
 use opencl_terms::scalars::Scalar;
 use std::alloc::{AllocError, Global};

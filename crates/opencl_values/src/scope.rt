@@ -8,7 +8,7 @@ ghost use Rattle.opencl_values.specs.View.{all_drawn, bindings, maybe_drawn, mea
 
 use core_code::tree::{Array, Site, Term};
 use opencl_effects::marks::{Mark, Sort, is_same};
-use opencl_terms::scalars::ValueType;
+use opencl_terms::scalars::{Scalar, ValueType};
 use words::Kind;
 
 /// What a name means.
@@ -34,12 +34,14 @@ pub enum Meaning {
         is_constant: bool,
         row: Term,
     },
-    /// An array with an offset, which the slot has. Into a private array it has the length of that and its row.
+    /// An array with an offset, which the slot has. Into a private array it has the length of that and its row. Where a buffer's elements
+    /// are seen as ones of another type, `over` is the buffer's scalar.
     Pointer {
         array: Array,
         element: ValueType,
         is_constant: bool,
         row: Option<(u32, Term)>,
+        over: Option<Scalar>,
         slot: u32,
     },
     /// A constant of an enumeration, by the 32 bits of an `int`.

@@ -30,7 +30,10 @@ use crate::error::{Construct, Fault, ValueError, refused};
 use crate::functions::{Form, construct_called, form_named};
 use crate::members::member_of;
 use crate::names::{bytes_of, type_of_name};
-use crate::pointers::{first_element, is_address, is_behind, is_indirection, moving, shifted_by};
+use crate::pointers::{
+    converted_part, first_element, is_address, is_behind, is_indirection, moving, null_compared,
+    null_value, shifted_by, type_pointed,
+};
 use crate::reads::{element_at, element_value, indexed_by, vector_at};
 use crate::scope::{Binding, Drawn, Meaning, Names, drawn_at, meaning_of};
 use crate::singles::Single;
@@ -375,6 +378,11 @@ pub fn part_of<'a>(
                 refused(Fault::LeftOut(Construct::Pointer), bracket)
             }
         }
+        Expr::Cast { site, to, of } => {
+            let pointed = type_pointed(names.visible, to, *site)?;
+            let pointer = part_of(alloc, names, *site, of)?;
+            converted_part(alloc, *site, to.qualifiers, pointed, pointer)
+        }
         _ => refused(Fault::LeftOut(Construct::Pointer), bracket),
     }
 }
@@ -456,6 +464,9 @@ pub fn value_of(alloc: Global, names: Names, of: &Expr) -> Result<Value, ValueEr
             left,
             right,
         } => {
+            if let Some(compared) = null_compared(names, *sign, left, right) {
+                return Ok(null_value(alloc, compared)?);
+            }
             if let Some(drawn) = drawn_for(names, *sign, *site) {
                 return kept(alloc, *site, drawn);
             }

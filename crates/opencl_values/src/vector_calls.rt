@@ -19,6 +19,7 @@ ghost use Rattle.words.specs.View.{kind as kind_seen};
 
 use crate::calls;
 use crate::calls::{Call, argument, scalar_made, term_made, test};
+use crate::choices::{select_called, shuffle_called};
 use crate::error::{Construct, Fault, ValueError, refused};
 use crate::functions::Form;
 use crate::saturation::has_bits_of;
@@ -301,6 +302,23 @@ fn scalar_result(
     Ok(whole(alloc, made)?)
 }
 
+fn result_for(
+    alloc: Global,
+    ids: Kind,
+    called: (Form, u32),
+    at: Site,
+    of: &[Value],
+) -> Result<Value, ValueError>
+    ensures { Gives value_seen result (rules.result_for (kind_seen ids) (form_seen called.0) called.1 (site at) (values_seen of.now) (rules.type_among (singles.alone types.Int) (values_seen of.now))) }
+{
+    let to = type_among(of);
+    if to.is_vector() {
+        vector_result(alloc, ids, called, at, of, to)
+    } else {
+        scalar_result(alloc, ids, called, at, of)
+    }
+}
+
 /// What a function makes of the values of its arguments.
 pub fn result_of(
     alloc: Global,
@@ -311,11 +329,10 @@ pub fn result_of(
 ) -> Result<Value, ValueError>
     ensures { Gives value_seen result (rules.result_of (kind_seen ids) (form_seen called.0) called.1 (site at) (values_seen of.now)) }
 {
-    let to = type_among(of);
-    if to.is_vector() {
-        vector_result(alloc, ids, called, at, of, to)
-    } else {
-        scalar_result(alloc, ids, called, at, of)
+    match called.0 {
+        Form::Selects => select_called(alloc, at, of),
+        Form::Shuffles => shuffle_called(alloc, at, of),
+        _ => result_for(alloc, ids, called, at, of),
     }
 }
 

@@ -1,0 +1,9 @@
+pub mod Shapes
+pub mod Refusing
+pub mod Sizes
+pub mod Fitting
+pub mod Numbers
+pub mod Kinds
+pub mod Telling
+pub mod Launches
+pub mod Asking

@@ -1,0 +1,35 @@
+-- Arguments of `select` and `shuffle`, by their number.
+use Rattle.std.proofs.Common.{◌≡◌, ◌<◌, ℕ, List, [], ◌∷◌, length, refl, arith}
+use Rattle.semantics.specs.Core as core
+use Rattle.opencl_values.specs.Choices.{select_called, shuffle_called}
+use Rattle.opencl_values.specs.Faults.{WrongType, refused}
+use Rattle.opencl_values.specs.View.{values}
+use Rattle.opencl_values.specs.declared.wholes.Value.{Value}
+
+pub select-few : (at : core.Site) (vs : List Value) → length vs < 3 → select_called at (values vs) ≡ refused WrongType at
+select-few at [] h = refl
+select-few at (a ∷ []) h = refl
+select-few at (a ∷ b ∷ []) h = refl
+select-few at (a ∷ b ∷ c ∷ vs) h = absurd (omega arith)
+
+pub select-many : (at : core.Site) (vs : List Value) → 3 < length vs → select_called at (values vs) ≡ refused WrongType at
+select-many at [] h = absurd (omega arith)
+select-many at (a ∷ []) h = absurd (omega arith)
+select-many at (a ∷ b ∷ []) h = absurd (omega arith)
+select-many at (a ∷ b ∷ c ∷ []) h = absurd (omega arith)
+select-many at (a ∷ b ∷ c ∷ d ∷ vs) h = refl
+
+pub shuffle-few : (at : core.Site) (vs : List Value) → length vs < 2 → shuffle_called at (values vs) ≡ refused WrongType at
+shuffle-few at [] h = refl
+shuffle-few at (a ∷ []) h = refl
+shuffle-few at (a ∷ b ∷ vs) h = absurd (omega arith)
+
+pub shuffle-many : (at : core.Site) (vs : List Value) → 2 < length vs → shuffle_called at (values vs) ≡ refused WrongType at
+shuffle-many at [] h = absurd (omega arith)
+shuffle-many at (a ∷ []) h = absurd (omega arith)
+shuffle-many at (a ∷ b ∷ []) h = absurd (omega arith)
+shuffle-many at (a ∷ b ∷ c ∷ vs) h = refl
+
+pub ruleset select_arguments = (select-few, select-many)
+
+pub ruleset shuffle_arguments = (shuffle-few, shuffle-many)

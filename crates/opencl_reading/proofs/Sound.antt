@@ -21,6 +21,7 @@ use Rattle.sound_cores.specs.Unset.{first_unset}
 use Rattle.sound_cores.proofs.Kept.{sound-proper, sound-told, sound-rises, sound-within}
 use Rattle.opencl_tokens.specs.Joining.{joined_of}
 use Rattle.opencl_tokens.specs.Scanning.{tokens_of}
+use Rattle.opencl_tokens.specs.Lexemes.{Lexeme}
 use Rattle.opencl_tokens.specs.Reading.{lexemes_of}
 use Rattle.opencl_macros.specs.Reading.{preprocessed}
 use Rattle.opencl_files.specs.FileTree.{KernelText}
@@ -34,7 +35,8 @@ use Rattle.opencl_reading.specs.FileNames.{outside_of}
 use Rattle.opencl_reading.specs.FileTypes.{meant_in}
 use Rattle.opencl_reading.specs.HeadRules.{are_locals, as_count}
 use Rattle.opencl_reading.specs.Kinds.{are_same}
-use Rattle.opencl_reading.specs.Kernels.{Fault, OfText, OfFile, OfCore, Unsound, on, when, has_few, has_parameters, is_kept, tested, all_set, with_few, checked, of_size, agreed, counted, sized, with_sizes, same, with_head, of_lexemes, placed, of_expanded, with_given, constants, with_texts, with_defines, with_lines, of_tokens, of_lines, read}
+use Rattle.opencl_reading.specs.Overloads.{first_overloading}
+use Rattle.opencl_reading.specs.Kernels.{Fault, OfText, OfFile, OfCore, Unsound, on, when, has_few, has_parameters, is_kept, tested, all_set, with_few, checked, of_size, agreed, counted, sized, with_sizes, same, with_head, of_file, of_lexemes, placed, of_expanded, with_given, constants, with_texts, with_defines, with_lines, of_tokens, of_lines, read}
 
 -- a part that answers was followed by what answers
 on-back : {A B F : Type 0} (into : F → Fault) (r : Result A (F × Site)) (next : A → Result B (Fault × Site)) (b : B) → on into r next ≡ Ok b → (a : A) × (next a ≡ Ok b)
@@ -74,6 +76,12 @@ head-kept ids outside head t v h =
     let s = on-back same (agreed t.header.site t.header.sizes head.sizes) (with_sizes ids outside t head) v h in
     sized-kept ids outside t head s.0 (are_sizes s.0) v s.1
 
+file-kept : (ids : Kind) (head : Head) (ts : List Lexeme) (o : Option Site) (v : Written) → of_file ids head ts o ≡ Ok v → is_kept v ≡ true
+file-kept ids head ts None v h =
+    let t = on-back OfFile (chosen_kernel head.kernel ts) (with_head ids (outside_of ts) head) v h in
+    head-kept ids (outside_of ts) head t.0 v t.1
+file-kept ids head ts (Some at) v h = absurd cc
+
 read-kept : (d : Devices) (head : Head) (bytes : List ℕ) (v : Written) → read d head bytes ≡ Ok v → is_kept v ≡ true
 unfolding read
 read-kept d head bytes v h =
@@ -86,8 +94,7 @@ read-kept d head bytes v h =
     let gs = on-back OfText (tokens_behind cs.0 ds.0) (with_given ids head tokens.0) v ds.1 in
     let out = on-back OfText (placed (preprocessed gs.0 tokens.0)) (of_expanded ids head) v gs.1 in
     let ts = on-back OfText (lexemes_of out.0) (of_lexemes ids head) v out.1 in
-    let t = on-back OfFile (chosen_kernel head.kernel ts.0) (with_head ids (outside_of ts.0) head) v ts.1 in
-    head-kept ids (outside_of ts.0) head t.0 v t.1
+    file-kept ids head ts.0 (first_overloading ts.0) v ts.1
 
 read-is_sound : (d : Devices) (head : Head) (bytes : List ℕ) (v : Written) → read d head bytes ≡ Ok v → is_sound v.core ≡ true
 read-is_sound d head bytes v h = (and_parts (is_sound v.core) (has_parameters v.core v.names) (read-kept d head bytes v h)).0

@@ -22,7 +22,7 @@ ghost use Rattle.opencl_reading.specs.Kernels as kernels;
 ghost use Rattle.opencl_reading.specs.Kernels.{read};
 ghost use Rattle.opencl_reading.specs.Answers.{Gives, outside, overloaded as overloaded_seen, too_many as too_many_seen};
 
-mod defines;
+pub mod defines;
 pub mod error;
 mod file_types;
 mod heads;
@@ -336,7 +336,7 @@ const OLDER_VERSIONS: &[u8] =
     b"#define CL_VERSION_1_0 100\n#define CL_VERSION_1_1 110\n#define CL_VERSION_1_2 120\n";
 
 #[tactic(auto, unfolding(crate::specs::Kernels::constants))]
-fn constants(alloc: Global) -> Result<Vec<u8>, AllocError>
+pub fn constants(alloc: Global) -> Result<Vec<u8>, AllocError>
     ensures { IfOk result (λ v. v.items ≡ kernels.constants) }
 {
     let mut text = Vec::from_slice(alloc, VERSIONS)?;

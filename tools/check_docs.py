@@ -35,6 +35,7 @@ def listed(said):
             comment += 1
         elif ":" in line:
             name, libraries = line.split(":")
+            name = name.split()[0]
             if name in sections:
                 said(f"crates.txt:{number}: `{name}` stands there twice")
             if comment != 1:

@@ -42,3 +42,13 @@ pub fn buffer(bytes: u64, memory: u64) -> Argument {
         words: [0; 16],
     }
 }
+
+pub fn local(bytes: u64) -> Argument {
+    Argument {
+        kind: 2,
+        reserved: 0,
+        bytes,
+        memory: 0,
+        words: [0; 16],
+    }
+}

@@ -6,7 +6,8 @@ usage: tools/install.py PREFIX, at the top of the repository; `../kverify instal
 A program or a library that a record names, and the sources that are there now, is taken as proved (build.py, prove_library.py); else one is
 compiled without proofs (compile.py, compile_library.py), and that is said here, by `kverify --version` there, and by CMake's find_package.
 Of the library's handles, which are C (hosts/src), nothing is ever proved; that is said where the library is. To make the library needs a C
-compiler (`cc`), and so does the shared library, for Python; where there is none that is left out, and said so.
+compiler (`cc`), and so do the shared library, for Python, and the layer of OpenCL, which is C (layer/); what cannot be made is left out, and
+that is said.
 What is laid down looks for nothing outside PREFIX, which may be moved.
 """
 import contextlib
@@ -15,13 +16,14 @@ import re
 import shutil
 import subprocess
 import sys
+import tempfile
 
 # (no file is to appear beside this one)
 sys.dont_write_bytecode = True
 import records
 
 PROGRAM, LIBRARY = "crates/kverify/out", "crates/host/out"
-SHARED = "libkverify.so.1"
+SHARED, LAYER = "libkverify.so.1", "libkverify_layer.so"
 # What a proved library has besides.
 UNPROVED_HANDLES = "kv_open, kv_allows and kv_close, which are C"
 # Where the files of hosts/ go below the prefix; a folder's files go into a folder.
@@ -117,6 +119,18 @@ class Prefix:
         return True
 
 
+    def put_layer(self):
+        """Makes the layer, and returns whether it could: it needs cc, make and the header of layers. Nothing is proved of it."""
+        library = f"{self.folder}/lib/libkverify.a"
+        with tempfile.TemporaryDirectory(prefix="kverify-layer-") as room:
+            words = ["make", "-s", "-C", "layer", f"OUT={room}", f"KVERIFY_LIBRARY={library}"]
+            how = {"stdin": subprocess.DEVNULL, "stdout": subprocess.DEVNULL, "stderr": subprocess.DEVNULL}
+            if not shutil.which("make") or subprocess.run(words, **how).returncode:
+                return False
+            self.put(f"{room}/{LAYER}", f"lib/{LAYER}", 0o755)
+        return True
+
+
 def version(is_program_proved, is_library_proved):
     """What `kverify --version` says there: the first two lines of `./kverify --version`, and what is proved."""
     lines = subprocess.check_output(["./kverify", "--version"], stdin=subprocess.DEVNULL, text=True).splitlines()[:2]
@@ -138,6 +152,8 @@ def main(folder):
     prefix.put(archive, "lib/libkverify.a")
     if not prefix.link_shared():
         say(f"without a C compiler that works (cc) there is no {SHARED}, which Python needs")
+    if not prefix.put_layer():
+        say(f"without cc, make and the header CL/cl_layer.h (opencl-c-headers) there is no {LAYER}")
     prefix.write(version(is_program_proved, is_library_proved), "share/kverify/version")
     say(f"laid down below {prefix.folder}:")
     for what, proved, by in [

@@ -1,5 +1,5 @@
 #!/usr/bin/env python3
-"""Runs hosts that use kverify as it is laid down: in C, C++ and Python on OpenCL, by CMake, make, GNU parallel and Slurm.
+"""Runs hosts that use kverify as it is laid down: in C, C++ and Python on OpenCL, by CMake, make, GNU parallel and Slurm; and the layer.
 
 usage: tools/test_hosts.py [NAME ..], at the top of the repository; `../kverify test --hosts` calls it. With names it runs these alone.
 
@@ -421,9 +421,54 @@ def by_slurm(place):
     return place.expect_certificates(folder)
 
 
+def of_layer(place, part):
+    """A part of the layer's own tests, with what is laid down."""
+    needs(cc="gcc", cxx="g++", make="make")
+    place.needs_opencl()
+    need(os.path.exists("/usr/include/CL/cl_layer.h"), "the header of layers", "opencl-c-headers")
+    words = ["layer/test.py", f"{place.prefix}/lib/libkverify.a", f"{place.prefix}/bin/kverify", "--only", part, "--folder", f"{place.room}/layer"]
+    text = place.ran(sys.executable, *words, folder=os.getcwd())
+    counts = COUNTS.findall(text)
+    expect(len(counts) == 1 and counts[0][1] == "0", "all of them pass", text)
+    return int(counts[0][0])
+
+
+def layer_is_laid_down(place):
+    """The layer that is laid down looks at a program's launches."""
+    place.needs_opencl()
+    layer = f"{place.prefix}/lib/libkverify_layer.so"
+    need(os.path.exists(layer), "the layer, which is laid down where it can be compiled", "gcc make opencl-c-headers")
+    place.ran("cc", "-std=c11", "-D_DEFAULT_SOURCE", "-pthread", os.path.abspath("layer/tests/launches.c"), "-o", "launches", "-lOpenCL")
+    more = {"OPENCL_LAYERS": layer, "KVERIFY_PROGRAM": f"{place.prefix}/bin/kverify", "KVERIFY_POLICY": "refuse"}
+    text = place.ran("./launches", "fill", "race", **more)
+    expect("fill: 0\nrace: -59\n" in text and "race confirmed" in text, "a data race is refused, and a safe launch is not", text)
+    return 1
+
+
+def layer_cases(place):
+    """What each launch comes to under the layer."""
+    return of_layer(place, "cases")
+
+
+def layer_sanitizers(place):
+    """The layer under the sanitizers of addresses and of threads."""
+    return of_layer(place, "sanitizers")
+
+
+def layer_allocations(place):
+    """Each allocation of the layer fails in turn."""
+    return of_layer(place, "allocations")
+
+
+def layer_programs(place):
+    """Real programs under the layer, as far as they are here."""
+    return of_layer(place, "real")
+
+
 TESTS = [laid_down, manual_page, completion, names_of_the_library, by_make, brought_certificate, by_pkg_config, limits]
 TESTS += [host_in_c, host_in_cxx, host_in_python, examples_on_device, parameters_of_all_types]
 TESTS += [by_ninja, by_cmake_and_make, by_parallel, by_slurm]
+TESTS += [layer_is_laid_down, layer_cases, layer_sanitizers, layer_allocations, layer_programs]
 
 
 def lay_down(place):

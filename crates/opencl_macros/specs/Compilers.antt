@@ -9,13 +9,12 @@ is_reserved [] = false
 is_reserved (a ∷ []) = false
 is_reserved (a ∷ b ∷ rest) = nat_eq a 95 && (nat_eq b 95 || (nat_le 65 b && nat_le b 90))
 
--- macros of one beginning: of types (OpenCL 1.2, 6.2.4.2), of versions (6.10), of floats (6.12.2; `HALF_` in the extension of halves), of
--- fences and images (6.12.8, 6.12.14)
+-- macros of one beginning: of types (OpenCL 1.2, 6.2.4.2), of versions (6.10), of floats and doubles (6.12.2), of fences and images (6.12.8,
+-- 6.12.14)
 abbrev pub is_of_family : (name : List ℕ) → Bool
 is_of_family name =
     bytes_eq (take 3 name) (codes "as_") || (bytes_eq (take 11 name) (codes "CL_VERSION_") || (bytes_eq (take 4 name) (codes "FLT_")
-    || (bytes_eq (take 4 name) (codes "DBL_") || (bytes_eq (take 5 name) (codes "HALF_") || (bytes_eq (take 2 name) (codes "M_")
-    || (bytes_eq (take 3 name) (codes "FP_") || bytes_eq (take 4 name) (codes "CLK_")))))))
+    || (bytes_eq (take 4 name) (codes "DBL_") || (bytes_eq (take 3 name) (codes "FP_") || bytes_eq (take 4 name) (codes "CLK_")))))
 
 abbrev pub is_one_of : List (List ℕ) → (name : List ℕ) → Bool
 is_one_of [] name = false
@@ -37,10 +36,20 @@ is_standard name = is_one_of standard_names name
 -- macros of doubles (OpenCL 1.2, 6.12.2), of kernels (6.10), of `long` in the embedded profile (10), and of C99 (7.16, 7.17)
 unfoldable pub header_names : List (List ℕ)
 header_names =
-    codes "HUGE_VAL" ∷ codes "kernel_exec" ∷ codes "cles_khr_int64" ∷ codes "true" ∷ codes "false" ∷ codes "NULL" ∷ []
+    codes "HUGE_VAL" ∷ codes "kernel_exec" ∷ codes "cles_khr_int64" ∷ codes "true" ∷ codes "false" ∷ codes "NULL" ∷ codes "M_E"
+    ∷ codes "M_LOG2E" ∷ codes "M_LOG10E" ∷ codes "M_LN2" ∷ codes "M_LN10" ∷ codes "M_PI" ∷ codes "M_PI_2" ∷ codes "M_PI_4"
+    ∷ codes "M_1_PI" ∷ codes "M_2_PI" ∷ codes "M_2_SQRTPI" ∷ codes "M_SQRT2" ∷ codes "M_SQRT1_2" ∷ []
+
+-- macros of the extension of halves (OpenCL 1.2 extensions, 9.5)
+unfoldable pub half_names : List (List ℕ)
+half_names =
+    codes "HALF_DIG" ∷ codes "HALF_MANT_DIG" ∷ codes "HALF_MAX_10_EXP" ∷ codes "HALF_MAX_EXP" ∷ codes "HALF_MIN_10_EXP"
+    ∷ codes "HALF_MIN_EXP" ∷ codes "HALF_RADIX" ∷ codes "HALF_MAX" ∷ codes "HALF_MIN" ∷ codes "HALF_EPSILON" ∷ codes "M_E_H"
+    ∷ codes "M_LOG2E_H" ∷ codes "M_LOG10E_H" ∷ codes "M_LN2_H" ∷ codes "M_LN10_H" ∷ codes "M_PI_H" ∷ codes "M_PI_2_H"
+    ∷ codes "M_PI_4_H" ∷ codes "M_1_PI_H" ∷ codes "M_2_PI_H" ∷ codes "M_2_SQRTPI_H" ∷ codes "M_SQRT2_H" ∷ codes "M_SQRT1_2_H" ∷ []
 
 abbrev pub is_compilers : (name : List ℕ) → Bool
-is_compilers name = is_standard name || (is_reserved name || (is_of_family name || is_one_of header_names name))
+is_compilers name = is_standard name || (is_reserved name || (is_of_family name || (is_one_of header_names name || is_one_of half_names name)))
 
 -- whether a name is defined (C99 6.10.1p1), where the text or the standard says so
 abbrev pub whether_defined : Table → Site → (name : List ℕ) → Result Bool Site

@@ -29,8 +29,6 @@ fn is_of_family(name: &str) -> bool
         || name.starts_with("CL_VERSION_")
         || name.starts_with("FLT_")
         || name.starts_with("DBL_")
-        || name.starts_with("HALF_")
-        || name.starts_with("M_")
         || name.starts_with("FP_")
         || name.starts_with("CLK_")
 }
@@ -86,7 +84,57 @@ fn is_header_name(name: &str) -> bool
 {
     matches!(
         name,
-        "HUGE_VAL" | "kernel_exec" | "cles_khr_int64" | "true" | "false" | "NULL"
+        "HUGE_VAL"
+            | "kernel_exec"
+            | "cles_khr_int64"
+            | "true"
+            | "false"
+            | "NULL"
+            | "M_E"
+            | "M_LOG2E"
+            | "M_LOG10E"
+            | "M_LN2"
+            | "M_LN10"
+            | "M_PI"
+            | "M_PI_2"
+            | "M_PI_4"
+            | "M_1_PI"
+            | "M_2_PI"
+            | "M_2_SQRTPI"
+            | "M_SQRT2"
+            | "M_SQRT1_2"
+    )
+}
+
+#[tactic(auto, unfolding(crate::specs::Compilers::half_names))]
+fn is_half_name(name: &str) -> bool
+    ensures { result ≡ meaning.is_one_of meaning.half_names name.now }
+{
+    matches!(
+        name,
+        "HALF_DIG"
+            | "HALF_MANT_DIG"
+            | "HALF_MAX_10_EXP"
+            | "HALF_MAX_EXP"
+            | "HALF_MIN_10_EXP"
+            | "HALF_MIN_EXP"
+            | "HALF_RADIX"
+            | "HALF_MAX"
+            | "HALF_MIN"
+            | "HALF_EPSILON"
+            | "M_E_H"
+            | "M_LOG2E_H"
+            | "M_LOG10E_H"
+            | "M_LN2_H"
+            | "M_LN10_H"
+            | "M_PI_H"
+            | "M_PI_2_H"
+            | "M_PI_4_H"
+            | "M_1_PI_H"
+            | "M_2_PI_H"
+            | "M_2_SQRTPI_H"
+            | "M_SQRT2_H"
+            | "M_SQRT1_2_H"
     )
 }
 
@@ -94,7 +142,11 @@ fn is_header_name(name: &str) -> bool
 pub fn is_compilers(name: &str) -> bool
     ensures { result ≡ meaning.is_compilers name.now }
 {
-    is_standard(name) || is_reserved(name) || is_of_family(name) || is_header_name(name)
+    is_standard(name)
+        || is_reserved(name)
+        || is_of_family(name)
+        || is_header_name(name)
+        || is_half_name(name)
 }
 
 /// Whether a name is defined, where the text or the standard says so.

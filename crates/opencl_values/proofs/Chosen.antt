@@ -1,7 +1,7 @@
--- Arguments of `select` and `shuffle`, by their number.
+-- Arguments of `select`, `shuffle` and `shuffle2`, by their number.
 use Rattle.std.proofs.Common.{◌≡◌, ◌<◌, ℕ, List, [], ◌∷◌, length, refl, arith}
 use Rattle.semantics.specs.Core as core
-use Rattle.opencl_values.specs.Choices.{select_called, shuffle_called}
+use Rattle.opencl_values.specs.Choices.{select_called, shuffle_called, join_called}
 use Rattle.opencl_values.specs.Faults.{WrongType, refused}
 use Rattle.opencl_values.specs.View.{values}
 use Rattle.opencl_values.specs.declared.wholes.Value.{Value}
@@ -30,6 +30,21 @@ shuffle-many at (a ∷ []) h = absurd (omega arith)
 shuffle-many at (a ∷ b ∷ []) h = absurd (omega arith)
 shuffle-many at (a ∷ b ∷ c ∷ vs) h = refl
 
+pub join-few : (at : core.Site) (vs : List Value) → length vs < 3 → join_called at (values vs) ≡ refused WrongType at
+join-few at [] h = refl
+join-few at (a ∷ []) h = refl
+join-few at (a ∷ b ∷ []) h = refl
+join-few at (a ∷ b ∷ c ∷ vs) h = absurd (omega arith)
+
+pub join-many : (at : core.Site) (vs : List Value) → 3 < length vs → join_called at (values vs) ≡ refused WrongType at
+join-many at [] h = absurd (omega arith)
+join-many at (a ∷ []) h = absurd (omega arith)
+join-many at (a ∷ b ∷ []) h = absurd (omega arith)
+join-many at (a ∷ b ∷ c ∷ []) h = absurd (omega arith)
+join-many at (a ∷ b ∷ c ∷ d ∷ vs) h = refl
+
 pub ruleset select_arguments = (select-few, select-many)
 
 pub ruleset shuffle_arguments = (shuffle-few, shuffle-many)
+
+pub ruleset join_arguments = (join-few, join-many)

@@ -1,6 +1,6 @@
--- `select` and `shuffle` (OpenCL 1.2, 6.12.6 and 6.12.12): by masks of bits, so that all arguments are evaluated, and no way of the kernel
+-- `select`, `shuffle` and `shuffle2` (OpenCL 1.2, 6.12.6 and 6.12.12): by masks of bits, so that all arguments are evaluated, and no way of the kernel
 -- is taken twice.
-use Rattle.std.specs.Prelude.{ℕ, ◌-◌, List, [], ◌∷◌, ◌++◌, Bool, cond, not, ◌&&◌, nat_eq, nat_le}
+use Rattle.std.specs.Prelude.{ℕ, ◌+◌, ◌-◌, List, [], ◌∷◌, ◌++◌, Bool, cond, not, ◌&&◌, nat_eq, nat_le}
 use Rattle.semantics.specs.Word as word
 use Rattle.semantics.specs.Word.{Rightward}
 use Rattle.semantics.specs.Core.{Site, Term, Binary, Shift}
@@ -109,3 +109,19 @@ shuffle_of site v m = when (may_shuffle v m) (LeftOut Vector) site (shuffled sit
 abbrev pub shuffle_called : Site → List Value → Checked Value
 shuffle_called site (v ∷ m ∷ []) = shuffle_of site v m
 shuffle_called site vs = refused WrongType site
+
+-- the components of two vectors of one type, one behind the other, as those of one vector
+abbrev pub joined : (v w : Value) → Value
+joined v w = value_of (type_of v.type.scalar (v.type.width + w.type.width)) (v.terms ++ w.terms)
+
+-- those of three components are none of these, and 32 components are left out
+abbrev pub may_join : (v w : Value) → Bool
+may_join v w = (is_vector v.type && is_same_type v.type w.type) && (not (nat_eq v.type.width 3) && nat_le v.type.width 8)
+
+-- `shuffle2(v, w, m)` is `shuffle` of the components of both
+abbrev pub join_of : Site → (v w m : Value) → Checked Value
+join_of site v w m = cond (may_join v w) (shuffle_of site (joined v w) m) (refused (LeftOut Vector) site)
+
+abbrev pub join_called : Site → List Value → Checked Value
+join_called site (v ∷ w ∷ m ∷ []) = join_of site v w m
+join_called site vs = refused WrongType site

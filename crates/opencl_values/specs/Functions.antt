@@ -9,12 +9,12 @@ use Rattle.opencl_values.specs.Scope.{or_else}
 
 -- `Integers` take integers of one scalar and give such a one; `Floats` take and give floats; `Scaled` a float and an `int`; `FromBits`
 -- makes a float of a `uint`, `Exponent` an `int` of a float; `Tests` of floats give an `int` of 0 or 1; of vectors `Reduces` gives a float
--- of all components, `Spreads` a vector of such; `Selects` chooses between two, `Shuffles` takes components by numbers
+-- of all components, `Spreads` a vector of such; `Selects` chooses between two, `Shuffles` takes components by numbers, `Joins` those of two
 pub data Form : Type 0 where
   IdOf : (function : Function) → Form
   Converts Saturates BitsAs : (to : Scalar) → Form
   Integers Floats Tests Reduces Spreads : (count : ℕ) → Form
-  Offset Lesser Greater Clamped Absolute Product24 Sum24 Scaled FromBits Exponent Selects Shuffles : Form
+  Offset Lesser Greater Clamped Absolute Product24 Sum24 Scaled FromBits Exponent Selects Shuffles Joins : Form
   Missing : (construct : Construct) → Form
 
 -- how many arguments it takes
@@ -40,6 +40,7 @@ count_of FromBits = 1
 count_of Exponent = 1
 count_of Selects = 3
 count_of Shuffles = 2
+count_of Joins = 3
 count_of (Missing construct) = 0
 
 -- functions of 6.12.2 to 6.12.6: of integers, of floats, their cheaper forms, common and geometric ones, tests. Those with a pointer are
@@ -81,7 +82,7 @@ functions =
     ∷ (codes "isinf", Tests 1) ∷ (codes "isnan", Tests 1) ∷ (codes "isnormal", Tests 1) ∷ (codes "signbit", Tests 1)
     ∷ (codes "fract", Missing Pointer) ∷ (codes "frexp", Missing Pointer) ∷ (codes "lgamma_r", Missing Pointer)
     ∷ (codes "modf", Missing Pointer) ∷ (codes "remquo", Missing Pointer) ∷ (codes "sincos", Missing Pointer) ∷ (codes "cross", Spreads 2)
-    ∷ (codes "select", Selects) ∷ (codes "shuffle", Shuffles) ∷ []
+    ∷ (codes "select", Selects) ∷ (codes "shuffle", Shuffles) ∷ (codes "shuffle2", Joins) ∷ []
 
 -- the work-item functions (6.12.1)
 unfoldable pub item_functions : List (List ℕ × Form)

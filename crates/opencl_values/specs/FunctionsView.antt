@@ -32,6 +32,7 @@ form forms.FromBits = functions.FromBits
 form forms.Exponent = functions.Exponent
 form forms.Selects = functions.Selects
 form forms.Shuffles = functions.Shuffles
+form forms.Joins = functions.Joins
 form (forms.Missing c) = functions.Missing (construct c)
 
 -- an entry of a table of functions, and of one of beginnings

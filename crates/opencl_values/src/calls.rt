@@ -442,9 +442,12 @@ pub fn term_made(alloc: Global, form: Form, call: Call) -> Result<Term, AllocErr
         Form::Scaled => scaled(alloc, call),
         Form::FromBits => unreckoned_as(alloc, Scalar::Uint, Kind::Uint, call),
         Form::Exponent => unreckoned_as(alloc, Scalar::Float, Kind::Int, call),
-        Form::IdOf(_) | Form::Offset | Form::Selects | Form::Shuffles | Form::Missing(_) => {
-            Ok(nothing())
-        }
+        Form::IdOf(_)
+        | Form::Offset
+        | Form::Selects
+        | Form::Shuffles
+        | Form::Joins
+        | Form::Missing(_) => Ok(nothing()),
     }
 }
 

@@ -1,6 +1,6 @@
-//! `select` and `shuffle`.
+//! `select`, `shuffle` and `shuffle2`.
 
-ghost use Rattle.std.specs.Prelude.{◌≡◌, ◌≤◌, true, [], map, IfOk};
+ghost use Rattle.std.specs.Prelude.{◌≡◌, ◌≤◌, ◌++◌, true, [], map, IfOk, OnOk};
 ghost use Rattle.core_code.specs.View.{operator as operator_seen, site, term};
 ghost use Rattle.opencl_terms.specs.Conversions as conversions;
 ghost use Rattle.opencl_values.specs.Choices as rules;
@@ -320,6 +320,73 @@ pub fn shuffle_called(alloc: Global, at: Site, of: &[Value]) -> Result<Value, Va
         [] => refused(Fault::WrongType, at),
         [_] => refused(Fault::WrongType, at),
         [vector, numbers] => shuffle_of(alloc, at, vector, numbers),
+        _ => refused(Fault::WrongType, at),
+    }
+}
+
+// Copies of some terms, behind others.
+fn push_copies(alloc: Global, of: &[Term], terms: &mut Vec<Term>) -> Result<(), AllocError>
+    ensures { OnOk result (map term terms.new.items ≡ map term terms.old.items ++ map term of.now) }
+{
+    for one in of {
+        terms.push(copy_of(alloc, one)?)?;
+    }
+    Ok(())
+}
+
+fn may_join(first: &Value, second: &Value) -> bool
+    ensures exact { result ≡ rules.may_join (value_seen first.now) (value_seen second.now) }
+    ensures few { result ≡ true → (first.now.of.width ≤ 8) × (second.now.of.width ≤ 8) }
+{
+    first.of.is_vector()
+        && is_same_type(first.of, second.of)
+        && first.of.width != 3
+        && first.of.width <= 8
+}
+
+fn joined(alloc: Global, first: &Value, second: &Value) -> Result<Value, AllocError>
+    requires { (first.now.of.width ≤ 8) × (second.now.of.width ≤ 8) }
+    ensures { IfOk result (λ v. value_seen v ≡ rules.joined (value_seen first.now) (value_seen second.now)) }
+{
+    let mut terms = Vec::new(alloc);
+    push_copies(alloc, &first.terms, &mut terms)?;
+    push_copies(alloc, &second.terms, &mut terms)?;
+    Ok(Value {
+        of: ValueType {
+            scalar: first.of.scalar,
+            width: first.of.width + second.of.width,
+        },
+        terms,
+    })
+}
+
+fn join_of(
+    alloc: Global,
+    at: Site,
+    first: &Value,
+    second: &Value,
+    numbers: &Value,
+) -> Result<Value, ValueError>
+    ensures { Gives value_seen result (rules.join_of (site at) (value_seen first.now) (value_seen second.now) (value_seen numbers.now)) }
+{
+    if may_join(first, second) {
+        let both = joined(alloc, first, second)?;
+        shuffle_of(alloc, at, &both, numbers)
+    } else {
+        refused(Fault::LeftOut(Construct::Vector), at)
+    }
+}
+
+/// What `shuffle2` makes of its arguments.
+#[tactic(auto, using(crate::proofs::Chosen::join_arguments))]
+pub fn join_called(alloc: Global, at: Site, of: &[Value]) -> Result<Value, ValueError>
+    ensures { Gives value_seen result (rules.join_called (site at) (values_seen of.now)) }
+{
+    match of {
+        [] => refused(Fault::WrongType, at),
+        [_] => refused(Fault::WrongType, at),
+        [_, _] => refused(Fault::WrongType, at),
+        [first, second, numbers] => join_of(alloc, at, first, second, numbers),
         _ => refused(Fault::WrongType, at),
     }
 }

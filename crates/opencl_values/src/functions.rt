@@ -46,11 +46,13 @@ pub enum Form {
     Selects,
     /// A vector, and the numbers of its components that it gives.
     Shuffles,
+    /// Two vectors, and the numbers of their components that it gives.
+    Joins,
     Missing(Construct),
 }
 
 /// The functions of OpenCL 1.2, 6.12.2 to 6.12.6.
-static FUNCTIONS: [(&[u8], Form); 142] = [
+static FUNCTIONS: [(&[u8], Form); 143] = [
     (b"min", Form::Lesser),
     (b"max", Form::Greater),
     (b"clamp", Form::Clamped),
@@ -193,6 +195,7 @@ static FUNCTIONS: [(&[u8], Form); 142] = [
     (b"cross", Form::Spreads(2)),
     (b"select", Form::Selects),
     (b"shuffle", Form::Shuffles),
+    (b"shuffle2", Form::Joins),
 ];
 
 /// The work-item functions (6.12.1).
@@ -348,7 +351,7 @@ impl Form {
             | Form::Reduces(count)
             | Form::Spreads(count) => count,
             Form::Lesser | Form::Greater | Form::Product24 | Form::Scaled | Form::Shuffles => 2,
-            Form::Clamped | Form::Sum24 | Form::Selects => 3,
+            Form::Clamped | Form::Sum24 | Form::Selects | Form::Joins => 3,
             Form::Missing(_) => 0,
         }
     }

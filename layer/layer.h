@@ -158,6 +158,8 @@ struct subject {
     unsigned parameters_n, shown_n, refused_n, waiting_n;
     unsigned kept_n, logged_n; /* how many files of it there are in the cache, and in the log */
     double milliseconds;
+    struct launch *seen; /* those that were allowed last */
+    unsigned seen_n, seen_next;
     struct parameter parameters[ARGUMENTS_MOST];
     struct shown *shown;
     struct question *questions;

@@ -5,6 +5,8 @@
 #include "layer.h"
 
 #define SUBJECTS_MOST 16384u
+/* How many launches of a kernel are remembered. */
+#define SEEN_MOST 16u
 /* How many bytes of texts are kept. */
 #define SOURCES_MOST 268435456u
 
@@ -95,19 +97,36 @@ static bool keeps_read_only(const struct subject *subject, const struct launch *
     return true;
 }
 
+/* Whether the launch is one of those that were allowed last: what the library answers of it is the same again. */
+static bool was_seen(const struct subject *subject, const struct launch *launch) {
+    unsigned at;
+    for (at = 0; at < subject->seen_n; at++)
+        if (launch_is_same(&subject->seen[at], launch)) return true;
+    return false;
+}
+
+static void remember(struct subject *subject, const struct launch *launch) {
+    if (!subject->seen) subject->seen = calloc(SEEN_MOST, sizeof *subject->seen);
+    if (!subject->seen) return;
+    subject->seen[subject->seen_next] = *launch;
+    subject->seen_next = (subject->seen_next + 1) % SEEN_MOST;
+    if (subject->seen_n < SEEN_MOST) subject->seen_n++;
+}
+
 bool subject_allows(struct subject *subject, const struct launch *launch, struct answer *answer) {
     struct shown **link, *shown;
     kv_answer told;
     if (launch->read_only && !subject->has_parameters) return false;
+    answer->verdict = ACCEPTED;
+    answer->words[0] = 0;
+    if (was_seen(subject, launch)) return true;
     for (link = &subject->shown; (shown = *link) != NULL; link = &shown->next) {
         if (kv_allows(shown->handle, settings.held, &launch->range, launch->arguments, launch->arguments_n, &told)) continue;
         /* (what was used last comes first) */
         *link = shown->next;
         shown->next = subject->shown;
         subject->shown = shown;
-        answer->verdict = ACCEPTED;
-        answer->words[0] = 0;
-        keeps_read_only(subject, launch, answer);
+        if (keeps_read_only(subject, launch, answer)) remember(subject, launch);
         return true;
     }
     return false;

@@ -33,7 +33,8 @@ its `requires`, behind *ensures* those of its `ensures`. A clause without a labe
 - *Exactly*: the answer is that of the definition, of each input; so is a fault, with its number and its place.
 - *Unless memory runs out*: where a function takes memory, it may answer that there is none, and then nothing else is said.
 - A *law* has an empty body: its contract is a theorem.
-- A *lawful* domain is a type with the laws of `domain::Domain`.
+- A function of a trait is named by the trait, and each type that has it keeps its contract. A *lawful* domain is a type with the laws of
+  `domain::Domain`.
 - The *greatest standing set* is the union of all sets of candidates in which each member has, for each of its obligations, a listed set
   inside (`supports/specs/Candidates.antt`). What a seat *has seen* is what it found absent or refuted, and what the seat that it was split
   from had seen by then (`board/specs/Rule.antt`).

@@ -14,7 +14,7 @@ import sys
 import time
 from concurrent.futures import ThreadPoolExecutor, as_completed
 
-CASES, TESTS = "crates/cases", ("basics_tests", "opencl_tests")
+CASES, TESTS = "crates/cases", ("basics_tests", "opencl_tests", "host_tests")
 PROGRAM = os.path.abspath(f"{CASES}/out/unproved/cases")
 AS_TOLD = re.compile(r"^(\S+): (\d+) as told$", re.M)
 RESULT = re.compile(r"^test result: .*?(\d+) passed; (\d+) failed", re.M)

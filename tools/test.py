@@ -1,5 +1,5 @@
 #!/usr/bin/env python3
-"""Runs all cases of crates/cases/data and all tests of basics_tests and opencl_tests, by programs that are compiled without any proof.
+"""Runs all cases of crates/cases/data and all tests of three crates, by programs that are compiled without any proof.
 
 usage: tools/test.py, at the top of the repository; `../kverify test` calls it.
 

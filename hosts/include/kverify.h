@@ -40,7 +40,7 @@ extern "C" {
 #define KV_BITS32 1u /* for devices with 32 address bits alone, as --devices 32 */
 #define KV_HELD 2u   /* the host answers for what the `values` lines say of buffers */
 
-/* Refusals beside those of docs/FORMATS.md (1 to 62, 90). */
+/* Refusals beside those of docs/FORMATS.md (1 to 60, 70, 71, 90). */
 #define KV_OK 0u
 #define KV_UNMET 40u     /* place: the line of the conditions that the launch does not meet */
 #define KV_ARGUMENTS 41u /* place: the argument (from 0) that is missing, too much, of another kind or size than its parameter, a

@@ -7,7 +7,7 @@
 mod answer;
 mod building;
 mod checking;
-mod explaining;
+mod explanation;
 mod given;
 pub mod laws;
 mod meeting;
@@ -16,5 +16,5 @@ mod putting;
 pub use answer::Answer;
 pub use building::build_words;
 pub use checking::checked;
-pub use explaining::explained;
+pub use explanation::explained;
 pub use meeting::meets;

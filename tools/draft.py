@@ -110,7 +110,7 @@ def tell(search, is_cut, words):
             print(search.found, end="")
         return 0
     if search.hopeless:
-        say("a replay shows this of small launches, and no line of the conditions helps")
+        say("a replay confirms this at launches of several sizes, so no conditions were looked for")
         print(search.hopeless.head())
     elif search.nearest:
         say("no conditions were found under which the kernel is accepted; under these least is left")

@@ -12,7 +12,7 @@ from draft_prover import OutOfTime
 # The upper ends of the counts of groups, by how many dimensions have groups; and those of small launches.
 WIDEST_GROUPS = {0: [], 1: [GROUPS], 2: [1024, 1024], 3: [128, 128, 64]}
 SMALL_GROUPS = {0: [], 1: [16], 2: [16, 16], 3: [8, 8, 8]}
-SMALL = 64
+SMALL, LARGE = 64, 4096
 # Upper ends of arguments that are tried together, from the widest.
 HIGHS = [LARGEST, 2**31 - 1, 2**24, 2**20, 65536, 4096, 1024, 256]
 # How far arguments go before lengths are numbers.
@@ -26,6 +26,9 @@ ROUNDS = 4
 SHARE = 1 / 3
 # How many sums are tried as the length of one buffer, and which numbers of the text as factors.
 SUMS, FACTORS = 32, 6
+# Which numbers buffers hold at most that are only loaded, and how many there are where a replay is looked at.
+HELD = [65535, 4095, 1023, 255, 15]
+REPLAYED = 65536
 # Findings that no line helps against, where a replay of small launches confirms them.
 HOPELESS = ("race confirmed: ", "divergence confirmed: ")
 
@@ -52,6 +55,7 @@ class Search:
         try:
             self.strengthen()
             if self.found:
+                self.shorten()
                 self.weaken()
         except OutOfTime:
             pass
@@ -71,11 +75,11 @@ class Search:
         small = {name: (low, high) if name in self.floats else (1, min(high, SMALL)) for name, (low, high) in self.types.items()}
         return {**self.group_ranges(SMALL_GROUPS), **small}
 
-    def single_ranges(self):
+    def single_ranges(self, size):
         """The ranges of one launch: the one that is given, or one group and arguments of one size."""
         if self.launch:
             return {name: (it, it) for name, it in self.launch.numbers().items()}
-        single = {name: (low, high) if name in self.floats else (min(high, SMALL),) * 2 for name, (low, high) in self.types.items()}
+        single = {name: (low, high) if name in self.floats else (min(high, size),) * 2 for name, (low, high) in self.types.items()}
         return {**{f"groups.{at}": (1, 1) for at in range(3)}, **single}
 
     def text(self, ranges):
@@ -136,7 +140,9 @@ class Search:
             if self.is_allowed(conditions):
                 self.found = conditions
         elif answer.number not in SEARCHED:
-            raise NotRead(answer.head())
+            # (a text that is made later may have too many terms, say)
+            if not self.nearest:
+                raise NotRead(answer.head())
         elif not self.nearest or answer.left() < self.nearest[1].left():
             self.nearest = conditions, answer
         return answer
@@ -174,6 +180,8 @@ class Search:
 
     def with_line(self, conditions, line):
         """A text with a line more, which joins a like one; the text itself where a launch that is given does not meet the line."""
+        if any(line.startswith(f"length {name} ") and length == self.longest(name) for name, length in conditions.lengths):
+            return conditions
         more = joined(conditions, line)
         if self.launch and set(more.unmet(self.launch)) - set(conditions.unmet(self.launch)):
             self.missed.append(line)
@@ -193,21 +201,21 @@ class Search:
         self.lengths = dict(self.mended.lengths)
         for step in (self.with_long_buffers, self.with_small_values):
             if self.mend(step(self.mended), 2):
-                return self.shorten()
-        single = self.with_small_values(self.with_long_buffers(self.text(self.single_ranges())))
+                return self.raise_values()
+        single = self.with_small_values(self.with_long_buffers(self.text(self.single_ranges(SMALL))))
         if self.mend(single, 2):
             self.widen_single()
             self.leave_out_requires()
-            self.shorten()
+            self.raise_values()
 
     def is_hopeless(self):
-        """Whether a replay confirms what no line helps against at small launches, too."""
-        single = self.with_small_values(self.text(self.single_ranges()))
-        small = self.text(self.small_ranges())
-        for conditions in (small.change(lengths=numbered(small.lengths)), single.change(lengths=numbered(single.lengths))):
-            if not any(it.startswith(HOPELESS) for it in self.ask(conditions).findings):
+        """Whether a replay confirms what no line helps against at launches of several sizes."""
+        for ranges in (self.small_ranges(), self.single_ranges(SMALL), self.single_ranges(LARGE)):
+            conditions = self.with_small_values(self.text(ranges))
+            answer = self.ask(conditions.change(lengths=tuple((name, Sum.number(REPLAYED)) for name, _ in conditions.lengths)))
+            if not any(it.startswith(HOPELESS) for it in answer.findings):
                 return False
-            self.hopeless = self.ask(conditions)
+        self.hopeless = answer
         return True
 
     def widen_single(self):
@@ -220,8 +228,8 @@ class Search:
     # Shorter buffers
 
     def shorten(self):
-        """Finds lengths for buffers that are as long as any."""
-        long = [name for name, length in self.found.lengths if length == self.longest(name)]
+        """Finds lengths for buffers that are as long as any, or as those of a replay."""
+        long = [name for name, length in self.found.lengths if length in (self.longest(name), Sum.number(REPLAYED))]
         long = [name for name in long if not self.find_length(name)]
         if long:
             self.widen_together(MODEST)
@@ -274,17 +282,24 @@ class Search:
     def widen(self):
         """Widens ranges: all of them at once, then the counts of groups, then all arguments together, then one by one."""
         full = self.full_ranges()
-        natural = {name: (max(low, 0), min(high, 2**31 - 1)) if name in self.types else (low, high) for name, (low, high) in full.items()}
         if self.holds(with_ranges(self.found, full)):
             return
         # (where ranges are wide, relations may help)
-        any(self.mend(with_ranges(self.found, it), 2) for it in (full, natural))
+        any(self.mend(with_ranges(self.found, it), 2) for it in (full, self.natural_ranges()))
         self.widen_groups()
         self.widen_together(HIGHS)
         for name in self.types:
             self.widen_argument(name, *full[name])
         for name, values in self.group_ranges(WIDEST_GROUPS).items():
             self.widen_end(name, [2**at for at in range(17)], values[1])
+
+    def natural_ranges(self):
+        """The widest counts of groups, and arguments from 0 to what an `int` may be, or as wide as they are."""
+        ranges = self.group_ranges(WIDEST_GROUPS)
+        for name, (least, most) in self.types.items():
+            low, high = self.found.ranges()[name]
+            ranges[name] = min(low, max(least, 0)), max(high, min(most, 2**31 - 1))
+        return ranges
 
     def widen_groups(self):
         groups = self.group_ranges(WIDEST_GROUPS)
@@ -306,10 +321,12 @@ class Search:
         numbers = [it for it in self.kernel.numbers if it < 2**20]
         ends = {it + more for it in numbers for more in (-1, 0, 1)} | {2**at - more for at in range(33) for more in (0, 1)}
         self.widen_end(name, sorted(ends), most)
-        for low in (least, 0, 1):
-            old, high = self.found.ranges()[name]
-            if low >= old or self.holds(self.found.with_range(name, low, high)):
-                return
+        old, high = self.found.ranges()[name]
+        for low in (it for it in (least, 0, 1) if it < old):
+            if self.holds(self.found.with_range(name, low, high)):
+                break
+        if self.found.ranges()[name][0] == 0 and least < 0:
+            self.find_last([-(2**at) for at in range(32) if -(2**at) > least], lambda it: self.found.with_range(name, it, high))
 
     def widen_end(self, name, ends, most):
         """Raises the upper end of a range to the largest of some numbers with which the text is accepted."""
@@ -343,6 +360,16 @@ class Search:
             without = self.found.change(requires=tuple(it for it in self.found.requires if it != line))
             if not self.holds(without):
                 any(self.holds(it) for it in raised(without, line[0]))
+
+    def raise_values(self):
+        """Has all buffers that are only loaded hold larger numbers, if they can."""
+        for most in HELD:
+            larger_values = self.found
+            for name, sign, sum_ in self.found.values:
+                if sum_.is_number():
+                    larger_values = larger_values.with_values(name, sign, Sum.number(most if sign == "<=" else -most))
+            if self.holds(larger_values):
+                return
 
     def widen_values(self, name, sign, sum_):
         if sum_.is_number():
@@ -401,8 +428,8 @@ def larger(one, other):
     difference = other.plus(one.times(-1))
     if difference.is_number():
         return other if difference.constant() > 0 else one
-    if one.is_number():
-        return other if one.constant() < LONGEST else one
+    if one == Sum():
+        return other
     both = one.plus(other)
     return both if both.may_be_said() else other
 
@@ -411,11 +438,6 @@ def product(one, other):
     """The product of two sums of one term each; none where it has more names than a term may have."""
     terms = [(factor * more, (*names, *others)) for names, factor in one.terms.items() for others, more in other.terms.items()]
     return Sum(terms) if all(len(names) <= 2 for _, names in terms) else None
-
-
-def numbered(lengths):
-    """Lengths that are large enough for small launches, and small enough for a replay."""
-    return tuple((name, Sum.number(2**16)) for name, _ in lengths)
 
 
 def with_ranges(conditions, ranges):

@@ -13,11 +13,13 @@ from draft_prover import OutOfTime
 WIDEST_GROUPS = {0: [], 1: [GROUPS], 2: [1024, 1024], 3: [128, 128, 64]}
 SMALL_GROUPS = {0: [], 1: [16], 2: [16, 16], 3: [8, 8, 8]}
 SMALL, LARGE = 64, 4096
+# Ranges of arguments with which a strong text is begun.
+SMALL_RANGES = [(16, SMALL), (1, 4), (1, SMALL)]
 # Upper ends of arguments that are tried together, from the widest.
 HIGHS = [LARGEST, 2**31 - 1, 2**24, 2**20, 65536, 4096, 1024, 256]
 # How far arguments go before lengths are numbers.
 MODEST = [1024, 256]
-# Lower ends that are tried in the place of requirements.
+# Lower ends of arguments that are tried.
 LOWS = [1, 2, 3, 4, 8, 16]
 # Refusals behind which there is something to search: too many paths or too large numbers, steps past the budget, findings, no end in time.
 SEARCHED = (53, 54, 56, 60, None)
@@ -71,16 +73,15 @@ class Search:
         ends = dict(zip(dimensions, most[len(dimensions)]))
         return {f"groups.{at}": (1, ends.get(at, 1)) for at in range(3)}
 
-    def small_ranges(self):
-        small = {name: (low, high) if name in self.floats else (1, min(high, SMALL)) for name, (low, high) in self.types.items()}
-        return {**self.group_ranges(SMALL_GROUPS), **small}
+    def small_ranges(self, least=1, most=SMALL):
+        small = {name: (min(high, least), min(high, most)) for name, (_, high) in self.types.items()}
+        return {**self.group_ranges(SMALL_GROUPS), **small, **{name: self.types[name] for name in self.floats}}
 
     def single_ranges(self, size):
         """The ranges of one launch: the one that is given, or one group and arguments of one size."""
         if self.launch:
             return {name: (it, it) for name, it in self.launch.numbers().items()}
-        single = {name: (low, high) if name in self.floats else (min(high, size),) * 2 for name, (low, high) in self.types.items()}
-        return {**{f"groups.{at}": (1, 1) for at in range(3)}, **single}
+        return {**self.small_ranges(size, size), **{f"groups.{at}": (1, 1) for at in range(3)}}
 
     def text(self, ranges):
         """A text of ranges alone."""
@@ -196,7 +197,7 @@ class Search:
         self.ask(widest)
         if self.found or self.mend(widest, 2) or self.is_hopeless():
             return
-        if self.mend(self.text(self.small_ranges())):
+        if any(self.mend(self.text(self.small_ranges(*it))) for it in SMALL_RANGES):
             return
         self.lengths = dict(self.mended.lengths)
         for step in (self.with_long_buffers, self.with_small_values):
@@ -322,7 +323,7 @@ class Search:
         ends = {it + more for it in numbers for more in (-1, 0, 1)} | {2**at - more for at in range(33) for more in (0, 1)}
         self.widen_end(name, sorted(ends), most)
         old, high = self.found.ranges()[name]
-        for low in (it for it in (least, 0, 1) if it < old):
+        for low in (it for it in (least, 0, *LOWS) if it < old):
             if self.holds(self.found.with_range(name, low, high)):
                 break
         if self.found.ranges()[name][0] == 0 and least < 0:

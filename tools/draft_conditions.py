@@ -273,7 +273,8 @@ def launch_of(chance, conditions, kinds, numbers):
             if buffer == name:
                 end = sum_.value(numbers)
                 low, high = (max(low, end), high) if sign == ">=" else (low, min(high, end))
-        if lengths[name] > LONGEST or (low > high and lengths[name]):
+        # (what no word meets holds of an empty buffer alone, and nobody means that)
+        if lengths[name] > LONGEST or low > high:
             return None
         if lengths[name]:
             ends[name] = low, high

@@ -187,7 +187,8 @@ class Search:
         if self.launch and set(more.unmet(self.launch)) - set(conditions.unmet(self.launch)):
             self.missed.append(line)
             return conditions
-        return more
+        # (of a buffer that may be empty it may be said that what is loaded for it as an index is below 0)
+        return more if self.launch or self.is_allowed(more) else conditions
 
     # To a text that is accepted
 

@@ -84,6 +84,8 @@ def test_random_launches_meet_conditions():
 def test_conditions_that_no_launch_meets():
     conditions = Conditions.of(TEXT.replace("arg pitch 1..4294967295", "arg pitch 1..1"))
     expect_same(least_launch(conditions, {"src": (0, 255), "dst": (0, 255)}), None)
+    conditions = Conditions.of("conditions 2\ngroups 1..1 1..1 1..1\nlength a >= 0\nvalues a <= -1\nbudget 1\n")
+    expect_same(least_launch(conditions, {"a": (0, 255)}), None)
 
 
 # What is read of kernels

@@ -200,6 +200,8 @@ class Search:
             return
         if any(self.mend(self.text(self.small_ranges(*it))) for it in SMALL_RANGES):
             return
+        if self.guess_lengths():
+            return
         self.lengths = dict(self.mended.lengths)
         for step in (self.with_long_buffers, self.with_small_values):
             if self.mend(step(self.mended), 2):
@@ -209,6 +211,21 @@ class Search:
             self.widen_single()
             self.leave_out_requires()
             self.raise_values()
+
+    def guess_lengths(self):
+        """Has buffers of which nothing is known as long as an argument says, where more is shown then; whether the text is accepted."""
+        arguments = [it for it in self.types if it not in self.floats]
+        for name in (name for name, length in self.mended.lengths if length == Sum()):
+            # (first those of which no other length is the sum)
+            used = {it for _, length in self.mended.lengths for it in length.names()}
+            for argument in sorted(arguments, key=lambda it: it in used):
+                before = self.mended
+                if self.mend(before.with_length(name, Sum([(1, (argument,))])), 2):
+                    return True
+                if self.ask(self.mended, "explain").left() < self.ask(before, "explain").left():
+                    break
+                self.mended = before
+        return False
 
     def is_hopeless(self):
         """Whether a replay confirms what no line helps against at launches of several sizes."""

@@ -178,6 +178,11 @@ def test_requirements_and_values():
     expect((Sum.of("n"), Sum.of("m")) in found.requires, "what is required")
 
 
+def test_lengths_are_guessed():
+    found = drafted(["length a >= n", "length b >= n + 1"], ["length b >= n + 1"])
+    expect_same((str(found.length("a")), str(found.length("b"))), ("n", "n + 1"))
+
+
 def test_a_launch_is_met():
     launch = launch_of("groups 1 1 1\narg n 33\narg m -3\nbuffer a fill 40 1\nbuffer b fill 50 1\n")
     found = drafted(["arg n 33..33", "length a >= n"], ["length a >= n"], launch)

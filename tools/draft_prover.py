@@ -6,7 +6,7 @@ import subprocess
 
 WORDS = ["--wide", "--opencl", "--devices", "any"]
 REMEDY = re.compile(r"^     =   ((?:arg|length|require|values) .*)$", re.M)
-BUDGET = re.compile(r"budget (\d+) is\s+enough")
+BUDGET = re.compile(r"budget\s+(\d+)\s+is\s+enough")
 
 
 class OutOfTime(Exception):

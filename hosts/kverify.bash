@@ -2,7 +2,7 @@
 _kverify() {
     local word=${COMP_WORDS[COMP_CWORD]} before=${COMP_WORDS[COMP_CWORD - 1]} command=${COMP_WORDS[1]}
     if [ "$COMP_CWORD" = 1 ]; then
-        mapfile -t COMPREPLY < <(compgen -W 'prove check explain run print migrate help --help --version' -- "$word")
+        mapfile -t COMPREPLY < <(compgen -W 'prove check explain run print migrate draft help --help --version' -- "$word")
         return
     fi
     case $before in
@@ -12,6 +12,7 @@ _kverify() {
         case $command:$word in
         prove:-*) mapfile -t COMPREPLY < <(compgen -W '--workers --out --devices --narrow' -- "$word") ;;
         run:-*) mapfile -t COMPREPLY < <(compgen -W '--workers --devices --narrow' -- "$word") ;;
+        draft:-*) mapfile -t COMPREPLY < <(compgen -W '--head --launch --out --seconds' -- "$word") ;;
         check:-* | explain:-*) mapfile -t COMPREPLY < <(compgen -W '--devices --narrow' -- "$word") ;;
         *) mapfile -t COMPREPLY < <(compgen -f -- "$word") ;;
         esac

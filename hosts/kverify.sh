@@ -19,4 +19,8 @@ fi
 if ! grep -q '^The program is proved\.$' "$root/share/kverify/version"; then
     echo 'kverify: nothing is proved of the program that answers here' >&2
 fi
+if [ "${1-}" = draft ]; then
+    shift
+    exec python3 "$root/share/kverify/draft/draft.py" "$root/libexec/kverify" "$@"
+fi
 exec "$root/libexec/kverify" "$@"

@@ -39,6 +39,8 @@ PLACES = {
     "kverify.1": "share/man/man1/kverify.1",
     "kverify.bash": "share/bash-completion/completions/kverify",
 }
+# What proposes conditions goes into one folder.
+DRAFT = ["draft.py", "draft_conditions.py", "draft_kernels.py", "draft_prover.py", "draft_search.py"]
 
 
 def say(text):
@@ -102,6 +104,8 @@ class Prefix:
                     self.put(f"hosts/{source}/{name}", f"{place}/{name}")
             else:
                 self.put(f"hosts/{source}", place)
+        for name in DRAFT:
+            self.put(f"tools/{name}", f"share/kverify/draft/{name}")
         version = re.search(r"KV_VERSION (\d+)u", text_of("hosts/include/kverify.h")).group(1)
         for source, place in [("kverify.pc.in", "pkgconfig/kverify.pc"), ("version.cmake.in", "cmake/kverify/kverifyConfigVersion.cmake")]:
             self.write(text_of(f"hosts/{source}").replace("@VERSION@", version), f"lib/{place}")

@@ -102,5 +102,5 @@ fn definitions_are_words_of_a_build(rt: HostRuntime) {
     let mut room = [0u8; 64];
     let count = build_words(rt.alloc(), CONDITIONS, &mut room);
     let wanted = b"-DCOUNT=1/**/+/**/2 -DFLAG -DTWICE(a)=(a)/**/*/**/2";
-    assert!(rt; count == 51 && &room[..51] == wanted.as_slice());
+    assert!(rt; count == 51 && room.as_slice().starts_with(wanted.as_slice()));
 }

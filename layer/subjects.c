@@ -117,6 +117,7 @@ bool subject_allows(struct subject *subject, const struct launch *launch, struct
     struct shown **link, *shown;
     kv_answer told;
     if (launch->read_only && !subject->has_parameters) return false;
+    if (!keeps_read_only(subject, launch, answer)) return true;
     answer->verdict = ACCEPTED;
     answer->words[0] = 0;
     if (was_seen(subject, launch)) return true;
@@ -126,7 +127,7 @@ bool subject_allows(struct subject *subject, const struct launch *launch, struct
         *link = shown->next;
         shown->next = subject->shown;
         subject->shown = shown;
-        if (keeps_read_only(subject, launch, answer)) remember(subject, launch);
+        remember(subject, launch);
         return true;
     }
     return false;

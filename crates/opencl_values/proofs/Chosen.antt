@@ -1,7 +1,7 @@
--- Arguments of `select`, `shuffle` and `shuffle2`, by their number.
-use Rattle.std.proofs.Common.{◌≡◌, ◌<◌, ℕ, List, [], ◌∷◌, length, refl, arith}
+-- Arguments of the functions that choose, by their number.
+use Rattle.std.proofs.Common.{◌≡◌, ◌<◌, ℕ, Bool, List, [], ◌∷◌, length, refl, arith}
 use Rattle.semantics.specs.Core as core
-use Rattle.opencl_values.specs.Choices.{select_called, shuffle_called, join_called}
+use Rattle.opencl_values.specs.Choices.{select_called, shuffle_called, join_called, mix_called, tops_called}
 use Rattle.opencl_values.specs.Faults.{WrongType, refused}
 use Rattle.opencl_values.specs.View.{values}
 use Rattle.opencl_values.specs.declared.wholes.Value.{Value}
@@ -43,8 +43,34 @@ join-many at (a ∷ b ∷ []) h = absurd (omega arith)
 join-many at (a ∷ b ∷ c ∷ []) h = absurd (omega arith)
 join-many at (a ∷ b ∷ c ∷ d ∷ vs) h = refl
 
+pub mix-few : (at : core.Site) (vs : List Value) → length vs < 3 → mix_called at (values vs) ≡ refused WrongType at
+mix-few at [] h = refl
+mix-few at (a ∷ []) h = refl
+mix-few at (a ∷ b ∷ []) h = refl
+mix-few at (a ∷ b ∷ c ∷ vs) h = absurd (omega arith)
+
+pub mix-many : (at : core.Site) (vs : List Value) → 3 < length vs → mix_called at (values vs) ≡ refused WrongType at
+mix-many at [] h = absurd (omega arith)
+mix-many at (a ∷ []) h = absurd (omega arith)
+mix-many at (a ∷ b ∷ []) h = absurd (omega arith)
+mix-many at (a ∷ b ∷ c ∷ []) h = absurd (omega arith)
+mix-many at (a ∷ b ∷ c ∷ d ∷ vs) h = refl
+
+pub tops-few : (is_all : Bool) (at : core.Site) (vs : List Value) → length vs < 1 → tops_called is_all at (values vs) ≡ refused WrongType at
+tops-few a at [] h = refl
+tops-few a at (v ∷ vs) h = absurd (omega arith)
+
+pub tops-many : (is_all : Bool) (at : core.Site) (vs : List Value) → 1 < length vs → tops_called is_all at (values vs) ≡ refused WrongType at
+tops-many a at [] h = absurd (omega arith)
+tops-many a at (v ∷ []) h = absurd (omega arith)
+tops-many a at (v ∷ w ∷ vs) h = refl
+
 pub ruleset select_arguments = (select-few, select-many)
 
 pub ruleset shuffle_arguments = (shuffle-few, shuffle-many)
 
 pub ruleset join_arguments = (join-few, join-many)
+
+pub ruleset mix_arguments = (mix-few, mix-many)
+
+pub ruleset tops_arguments = (tops-few, tops-many)

@@ -11,7 +11,7 @@ use Rattle.opencl_terms.specs.Operations as operations
 use Rattle.opencl_values.specs.Faults.{Checked, WrongType, LeftOut, refused, then, when}
 use Rattle.opencl_values.specs.Singles.{Single, single, as_scalar}
 use Rattle.opencl_values.specs.Saturation.{saturated_from, reread, has_bits_of}
-use Rattle.opencl_values.specs.Functions.{Form, IdOf, Converts, Saturates, BitsAs, Integers, Floats, Tests, Reduces, Spreads, Offset, Lesser, Greater, Clamped, Absolute, Product24, Sum24, Scaled, FromBits, Exponent, Selects, Shuffles, Joins, Missing, count_of}
+use Rattle.opencl_values.specs.Functions.{Form, IdOf, Converts, Saturates, BitsAs, Integers, Floats, Tests, Reduces, Spreads, Offset, Lesser, Greater, Clamped, Absolute, Product24, Sum24, Scaled, FromBits, Exponent, Selects, Shuffles, Joins, Mixes, Tops, Missing, count_of}
 
 -- a call: the kind of sizes, the number of the operation, the scalar of all arguments, where it stands, the arguments
 pub record Call : Type 0 where
@@ -176,6 +176,8 @@ term_made Offset c = operations.nothing
 term_made Selects c = operations.nothing
 term_made Shuffles c = operations.nothing
 term_made Joins c = operations.nothing
+term_made Mixes c = operations.nothing
+term_made (Tops is_all) c = operations.nothing
 term_made (Missing construct) c = operations.nothing
 
 abbrev pub made : Form → Call → Checked Single

@@ -1,15 +1,15 @@
--- `select`, `shuffle` and `shuffle2` (OpenCL 1.2, 6.12.6 and 6.12.12): by masks of bits, so that all arguments are evaluated, and no way of the kernel
--- is taken twice.
-use Rattle.std.specs.Prelude.{ℕ, ◌+◌, ◌-◌, List, [], ◌∷◌, ◌++◌, Bool, cond, not, ◌&&◌, nat_eq, nat_le}
+-- `select`, `bitselect`, `any`, `all`, `shuffle` and `shuffle2` (OpenCL 1.2, 6.12.6 and 6.12.12): by masks of bits, so that all arguments
+-- are evaluated, and no way of the kernel is taken twice.
+use Rattle.std.specs.Prelude.{ℕ, ◌+◌, ◌-◌, List, [], ◌∷◌, ◌++◌, Bool, true, false, cond, not, ◌&&◌, nat_eq, nat_le}
 use Rattle.semantics.specs.Word as word
 use Rattle.semantics.specs.Word.{Rightward}
 use Rattle.semantics.specs.Core.{Site, Term, Binary, Shift}
-use Rattle.opencl_terms.specs.Types.{Scalar, Uint, ValueType, Value, type_of, value_of, is_vector, is_float, bits_in, scalar_number}
+use Rattle.opencl_terms.specs.Types.{Scalar, Char, Short, Int, Uint, ValueType, Value, type_of, value_of, is_vector, is_float, bits_in, scalar_number}
 use Rattle.opencl_terms.specs.Conversions.{uint, masked}
 use Rattle.opencl_values.specs.Faults.{Checked, WrongType, LeftOut, Vector, refused, when}
-use Rattle.opencl_values.specs.Singles.{Single}
+use Rattle.opencl_values.specs.Singles.{single}
 use Rattle.opencl_values.specs.Bits.{is_in_memory, bits_of_number, number_of_bits}
-use Rattle.opencl_values.specs.Wholes.{component, is_same_type, places}
+use Rattle.opencl_values.specs.Wholes.{component, is_same_type, places, whole}
 
 abbrev pub less : Site → (a b : Term) → Term
 less site a b = Binary word.Subtract word.Uint site a b
@@ -125,3 +125,60 @@ join_of site v w m = cond (may_join v w) (shuffle_of site (joined v w) m) (refus
 abbrev pub join_called : Site → List Value → Checked Value
 join_called site (v ∷ w ∷ m ∷ []) = join_of site v w m
 join_called site vs = refused WrongType site
+
+-- `bitselect(a, b, c)` has the bits of `b` where `c` has one, and else those of `a` (6.12.6)
+abbrev pub mixed_bits : Site → (a b c : Term) → Term
+mixed_bits site a b c = bits_or site (bits_and site b c) (bits_and site a (bits_xor site c (uint 4294967295)))
+
+abbrev pub mixed_at : Site → (a b c : Value) → (place : ℕ) → Term
+mixed_at site a b c n = number_of_bits a.type.scalar site (mixed_bits site (bits_at site a n) (bits_at site b n) (bits_at site c n))
+
+abbrev pub mixed_behind : Site → (a b c : Value) → (so_far : List Term) → (places : List ℕ) → List Term
+mixed_behind site a b c ts [] = ts
+mixed_behind site a b c ts (n ∷ ns) = mixed_behind site a b c (ts ++ mixed_at site a b c n ∷ []) ns
+
+abbrev pub mixed : Site → (a b c : Value) → Value
+mixed site a b c = value_of a.type (mixed_behind site a b c [] (places a.type.width))
+
+abbrev pub may_mix : (a b c : Value) → Bool
+may_mix a b c = (is_same_type a.type b.type && is_same_type a.type c.type) && is_in_memory a.type.scalar
+
+abbrev pub mix_of : Site → (a b c : Value) → Checked Value
+mix_of site a b c = when (may_mix a b c) (LeftOut Vector) site (mixed site a b c)
+
+abbrev pub mix_called : Site → List Value → Checked Value
+mix_called site (a ∷ b ∷ c ∷ []) = mix_of site a b c
+mix_called site vs = refused WrongType site
+
+-- `any` and `all`: 1 where the highest bit of a component, or of each, is one, else 0 (6.12.6)
+abbrev pub top_at : Site → Value → (place : ℕ) → Term
+top_at site v n = highest site (bits_in v.type.scalar) (bits_at site v n)
+
+abbrev pub with_top : (is_all : Bool) → Site → (so_far top : Term) → Term
+with_top true site t u = bits_and site t u
+with_top false site t u = bits_or site t u
+
+abbrev pub tops_behind : (is_all : Bool) → Site → Value → (so_far : Term) → (places : List ℕ) → Term
+tops_behind a site v t [] = t
+tops_behind a site v t (n ∷ ns) = tops_behind a site v (with_top a site t (top_at site v n)) ns
+
+abbrev pub first_top : (is_all : Bool) → Term
+first_top true = uint 1
+first_top false = uint 0
+
+abbrev pub tops : (is_all : Bool) → Site → Value → Value
+tops a site v = whole (single Int (number_of_bits Int site (tops_behind a site v (first_top a) (places v.type.width))))
+
+-- of `char`, `short` and `int` alone: for a narrower unsigned scalar a compiler takes the function of `int`
+abbrev pub is_signed : Scalar → Bool
+is_signed Char = true
+is_signed Short = true
+is_signed Int = true
+is_signed s = false
+
+abbrev pub tops_of : (is_all : Bool) → Site → Value → Checked Value
+tops_of a site v = when (is_signed v.type.scalar) (LeftOut Vector) site (tops a site v)
+
+abbrev pub tops_called : (is_all : Bool) → Site → List Value → Checked Value
+tops_called a site (v ∷ []) = tops_of a site v
+tops_called a site vs = refused WrongType site

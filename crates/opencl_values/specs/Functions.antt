@@ -1,5 +1,5 @@
 -- The built-in functions that are read, by their names, and what is made of their arguments (OpenCL 1.2, 6.2.3, 6.2.4 and 6.12).
-use Rattle.std.specs.Prelude.{ℕ, ◌+◌, List, [], ◌∷◌, cond, Option, Some, None, bytes_eq, codes, nat_eq}
+use Rattle.std.specs.Prelude.{ℕ, ◌+◌, List, [], ◌∷◌, Bool, true, false, cond, Option, Some, None, bytes_eq, codes, nat_eq}
 use Rattle.std.specs.List.{find, starts_with}
 use Rattle.semantics.specs.Core.{Function, GlobalId, LocalId, GroupId, GlobalSize, LocalSize, NumGroups}
 use Rattle.opencl_terms.specs.Types.{Scalar, Char, Uchar, Short, Ushort, Int, Uint, Float}
@@ -9,12 +9,14 @@ use Rattle.opencl_values.specs.Scope.{or_else}
 
 -- `Integers` take integers of one scalar and give such a one; `Floats` take and give floats; `Scaled` a float and an `int`; `FromBits`
 -- makes a float of a `uint`, `Exponent` an `int` of a float; `Tests` of floats give an `int` of 0 or 1; of vectors `Reduces` gives a float
--- of all components, `Spreads` a vector of such; `Selects` chooses between two, `Shuffles` takes components by numbers, `Joins` those of two
+-- of all components, `Spreads` a vector of such; `Selects` chooses between two, `Shuffles` takes components by numbers, `Joins` those of two;
+-- `Mixes` chooses bit by bit, `Tops` gives an `int` of the highest bits
 pub data Form : Type 0 where
   IdOf : (function : Function) → Form
   Converts Saturates BitsAs : (to : Scalar) → Form
   Integers Floats Tests Reduces Spreads : (count : ℕ) → Form
-  Offset Lesser Greater Clamped Absolute Product24 Sum24 Scaled FromBits Exponent Selects Shuffles Joins : Form
+  Offset Lesser Greater Clamped Absolute Product24 Sum24 Scaled FromBits Exponent Selects Shuffles Joins Mixes : Form
+  Tops : (is_all : Bool) → Form
   Missing : (construct : Construct) → Form
 
 -- how many arguments it takes
@@ -41,6 +43,8 @@ count_of Exponent = 1
 count_of Selects = 3
 count_of Shuffles = 2
 count_of Joins = 3
+count_of Mixes = 3
+count_of (Tops is_all) = 1
 count_of (Missing construct) = 0
 
 -- functions of 6.12.2 to 6.12.6: of integers, of floats, their cheaper forms, common and geometric ones, tests. Those with a pointer are
@@ -82,7 +86,8 @@ functions =
     ∷ (codes "isinf", Tests 1) ∷ (codes "isnan", Tests 1) ∷ (codes "isnormal", Tests 1) ∷ (codes "signbit", Tests 1)
     ∷ (codes "fract", Missing Pointer) ∷ (codes "frexp", Missing Pointer) ∷ (codes "lgamma_r", Missing Pointer)
     ∷ (codes "modf", Missing Pointer) ∷ (codes "remquo", Missing Pointer) ∷ (codes "sincos", Missing Pointer) ∷ (codes "cross", Spreads 2)
-    ∷ (codes "select", Selects) ∷ (codes "shuffle", Shuffles) ∷ (codes "shuffle2", Joins) ∷ []
+    ∷ (codes "select", Selects) ∷ (codes "shuffle", Shuffles) ∷ (codes "shuffle2", Joins)
+    ∷ (codes "bitselect", Mixes) ∷ (codes "any", Tops false) ∷ (codes "all", Tops true) ∷ []
 
 -- the work-item functions (6.12.1)
 unfoldable pub item_functions : List (List ℕ × Form)

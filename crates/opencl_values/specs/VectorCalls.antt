@@ -11,8 +11,8 @@ use Rattle.opencl_terms.specs.Operations as operations
 use Rattle.opencl_values.specs.Calls as calls
 use Rattle.opencl_values.specs.Calls.{Call, dimension_of, id_value, offset_value}
 use Rattle.opencl_values.specs.Faults.{Checked, WrongType, LeftOut, Vector, refused, then, when}
-use Rattle.opencl_values.specs.Functions.{Form, IdOf, Converts, Saturates, BitsAs, Integers, Floats, Tests, Reduces, Spreads, Offset, Absolute, Product24, Sum24, Scaled, Exponent, Selects, Shuffles, Joins, Missing, count_of}
-use Rattle.opencl_values.specs.Choices.{select_called, shuffle_called, join_called}
+use Rattle.opencl_values.specs.Functions.{Form, IdOf, Converts, Saturates, BitsAs, Integers, Floats, Tests, Reduces, Spreads, Offset, Absolute, Product24, Sum24, Scaled, Exponent, Selects, Shuffles, Joins, Mixes, Tops, Missing, count_of}
+use Rattle.opencl_values.specs.Choices.{select_called, shuffle_called, join_called, mix_called, tops_called}
 use Rattle.opencl_values.specs.Saturation.{has_bits_of}
 use Rattle.opencl_values.specs.Singles.{Single, single, alone}
 use Rattle.opencl_values.specs.Widened.{Wide}
@@ -122,6 +122,8 @@ abbrev pub result_of : (ids : Kind) → Form → (operation : ℕ) → Site → 
 result_of ids Selects n site vs = select_called site vs
 result_of ids Shuffles n site vs = shuffle_called site vs
 result_of ids Joins n site vs = join_called site vs
+result_of ids Mixes n site vs = mix_called site vs
+result_of ids (Tops is_all) n site vs = tops_called is_all site vs
 result_of ids f n site vs = result_for ids f n site vs (type_among (alone Int) vs)
 
 abbrev pub called : (ids : Kind) → Form → (operation : ℕ) → Site → Expressions → Checked (List Value) → Checked Value

@@ -447,6 +447,8 @@ pub fn term_made(alloc: Global, form: Form, call: Call) -> Result<Term, AllocErr
         | Form::Selects
         | Form::Shuffles
         | Form::Joins
+        | Form::Mixes
+        | Form::Tops(_)
         | Form::Missing(_) => Ok(nothing()),
     }
 }

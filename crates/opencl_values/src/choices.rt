@@ -1,8 +1,9 @@
-//! `select`, `shuffle` and `shuffle2`.
+//! `select`, `bitselect`, `any`, `all`, `shuffle` and `shuffle2`.
 
 ghost use Rattle.std.specs.Prelude.{◌≡◌, ◌≤◌, ◌++◌, true, [], map, IfOk, OnOk};
 ghost use Rattle.core_code.specs.View.{operator as operator_seen, site, term};
 ghost use Rattle.opencl_terms.specs.Conversions as conversions;
+ghost use Rattle.opencl_terms.specs.View.{scalar as scalar_seen};
 ghost use Rattle.opencl_values.specs.Choices as rules;
 ghost use Rattle.opencl_values.specs.View.{value as value_seen, values as values_seen, Gives};
 ghost use Rattle.semantics.specs.Core as core;
@@ -10,7 +11,8 @@ ghost use Rattle.semantics.specs.Word as words_rules;
 
 use crate::bits::{bits_of_number, is_in_memory, number_of_bits};
 use crate::error::{Construct, Fault, ValueError, refused};
-use crate::wholes::{Value, component, is_same_type, places};
+use crate::singles::Single;
+use crate::wholes::{Value, component, is_same_type, places, whole};
 use core_code::tree::{Direction, Operator, Site, Term};
 use core_pieces::copies::copy_of;
 use core_pieces::pieces::{binary, literal, shift};
@@ -387,6 +389,192 @@ pub fn join_called(alloc: Global, at: Site, of: &[Value]) -> Result<Value, Value
         [_] => refused(Fault::WrongType, at),
         [_, _] => refused(Fault::WrongType, at),
         [first, second, numbers] => join_of(alloc, at, first, second, numbers),
+        _ => refused(Fault::WrongType, at),
+    }
+}
+
+fn mixed_bits(
+    alloc: Global,
+    at: Site,
+    skipped: Term,
+    taken: Term,
+    chooser: Term,
+) -> Result<Term, AllocError>
+    ensures { IfOk result (λ t. term t ≡ rules.mixed_bits (site at) (term skipped) (term taken) (term chooser)) }
+{
+    let again = copy_of(alloc, &chooser)?;
+    let taken = of_uints(alloc, Operator::BitAnd, at, taken, chooser)?;
+    let others = of_uints(
+        alloc,
+        Operator::BitXor,
+        at,
+        again,
+        literal(Kind::Uint, u32::MAX),
+    )?;
+    let skipped = of_uints(alloc, Operator::BitAnd, at, skipped, others)?;
+    of_uints(alloc, Operator::BitOr, at, taken, skipped)
+}
+
+fn mixed_at(
+    alloc: Global,
+    at: Site,
+    of: (&Value, &Value, &Value),
+    place: u32,
+) -> Result<Term, AllocError>
+    ensures { IfOk result (λ t. term t ≡ rules.mixed_at (site at) (value_seen of.entry.0.now) (value_seen of.entry.1.now) (value_seen of.entry.2.now) place) }
+{
+    let skipped = bits_at(alloc, at, of.0, place)?;
+    let taken = bits_at(alloc, at, of.1, place)?;
+    let chooser = bits_at(alloc, at, of.2, place)?;
+    let bits = mixed_bits(alloc, at, skipped, taken, chooser)?;
+    number_of_bits(alloc, of.0.of.scalar, at, bits)
+}
+
+fn mixed_behind(
+    alloc: Global,
+    at: Site,
+    of: (&Value, &Value, &Value),
+    places: &[u32],
+) -> Result<Vec<Term>, AllocError>
+    ensures { IfOk result (λ ts. map term ts.items ≡ rules.mixed_behind (site at) (value_seen of.entry.0.now) (value_seen of.entry.1.now) (value_seen of.entry.2.now) [] places.now) }
+{
+    let mut terms = Vec::new(alloc);
+    for place in places {
+        terms.push(mixed_at(alloc, at, of, *place)?)?;
+    }
+    Ok(terms)
+}
+
+fn may_mix(skipped: &Value, taken: &Value, chooser: &Value) -> bool
+    ensures { result ≡ rules.may_mix (value_seen skipped.now) (value_seen taken.now) (value_seen chooser.now) }
+{
+    is_same_type(skipped.of, taken.of)
+        && is_same_type(skipped.of, chooser.of)
+        && is_in_memory(skipped.of.scalar)
+}
+
+fn mix_of(
+    alloc: Global,
+    at: Site,
+    skipped: &Value,
+    taken: &Value,
+    chooser: &Value,
+) -> Result<Value, ValueError>
+    ensures { Gives value_seen result (rules.mix_of (site at) (value_seen skipped.now) (value_seen taken.now) (value_seen chooser.now)) }
+{
+    if !may_mix(skipped, taken, chooser) {
+        return refused(Fault::LeftOut(Construct::Vector), at);
+    }
+    let of = skipped.of;
+    let terms = mixed_behind(alloc, at, (skipped, taken, chooser), places(of.width))?;
+    Ok(Value { of, terms })
+}
+
+/// What `bitselect` makes of its arguments.
+#[tactic(auto, using(crate::proofs::Chosen::mix_arguments))]
+pub fn mix_called(alloc: Global, at: Site, of: &[Value]) -> Result<Value, ValueError>
+    ensures { Gives value_seen result (rules.mix_called (site at) (values_seen of.now)) }
+{
+    match of {
+        [] => refused(Fault::WrongType, at),
+        [_] => refused(Fault::WrongType, at),
+        [_, _] => refused(Fault::WrongType, at),
+        [skipped, taken, chooser] => mix_of(alloc, at, skipped, taken, chooser),
+        _ => refused(Fault::WrongType, at),
+    }
+}
+
+fn top_at(alloc: Global, at: Site, of: &Value, place: u32) -> Result<Term, AllocError>
+    ensures { IfOk result (λ t. term t ≡ rules.top_at (site at) (value_seen of.now) place) }
+{
+    let bits = bits_at(alloc, at, of, place)?;
+    highest(alloc, at, of.of.scalar.bits(), bits)
+}
+
+fn with_top(
+    alloc: Global,
+    is_all: bool,
+    at: Site,
+    so_far: Term,
+    top: Term,
+) -> Result<Term, AllocError>
+    ensures { IfOk result (λ t. term t ≡ rules.with_top is_all (site at) (term so_far) (term top)) }
+{
+    if is_all {
+        of_uints(alloc, Operator::BitAnd, at, so_far, top)
+    } else {
+        of_uints(alloc, Operator::BitOr, at, so_far, top)
+    }
+}
+
+fn first_top(is_all: bool) -> Term
+    ensures { term result ≡ rules.first_top is_all }
+{
+    if is_all {
+        literal(Kind::Uint, 1)
+    } else {
+        literal(Kind::Uint, 0)
+    }
+}
+
+fn tops_behind(
+    alloc: Global,
+    is_all: bool,
+    at: Site,
+    of: &Value,
+    places: &[u32],
+) -> Result<Term, AllocError>
+    ensures { IfOk result (λ t. term t ≡ rules.tops_behind is_all (site at) (value_seen of.now) (rules.first_top is_all) places.now) }
+{
+    let mut so_far = first_top(is_all);
+    for place in places {
+        let top = top_at(alloc, at, of, *place)?;
+        so_far = with_top(alloc, is_all, at, so_far, top)?;
+    }
+    Ok(so_far)
+}
+
+fn tops(alloc: Global, is_all: bool, at: Site, of: &Value) -> Result<Value, AllocError>
+    ensures { IfOk result (λ v. value_seen v ≡ rules.tops is_all (site at) (value_seen of.now)) }
+{
+    let bits = tops_behind(alloc, is_all, at, of, places(of.of.width))?;
+    let scalar = Scalar::Int;
+    let term = number_of_bits(alloc, scalar, at, bits)?;
+    whole(alloc, Single { scalar, term })
+}
+
+fn is_signed(of: Scalar) -> bool
+    ensures { result ≡ rules.is_signed (scalar_seen of) }
+{
+    match of {
+        Scalar::Char | Scalar::Short | Scalar::Int => true,
+        Scalar::Boolean
+        | Scalar::Uchar
+        | Scalar::Ushort
+        | Scalar::Uint
+        | Scalar::Size
+        | Scalar::Float => false,
+    }
+}
+
+fn tops_of(alloc: Global, is_all: bool, at: Site, of: &Value) -> Result<Value, ValueError>
+    ensures { Gives value_seen result (rules.tops_of is_all (site at) (value_seen of.now)) }
+{
+    if is_signed(of.of.scalar) {
+        Ok(tops(alloc, is_all, at, of)?)
+    } else {
+        refused(Fault::LeftOut(Construct::Vector), at)
+    }
+}
+
+/// What `all`, or else `any`, makes of its arguments.
+#[tactic(auto, using(crate::proofs::Chosen::tops_arguments))]
+pub fn tops_called(alloc: Global, is_all: bool, at: Site, of: &[Value]) -> Result<Value, ValueError>
+    ensures { Gives value_seen result (rules.tops_called is_all (site at) (values_seen of.now)) }
+{
+    match of {
+        [] => refused(Fault::WrongType, at),
+        [vector] => tops_of(alloc, is_all, at, vector),
         _ => refused(Fault::WrongType, at),
     }
 }

@@ -48,11 +48,15 @@ pub enum Form {
     Shuffles,
     /// Two vectors, and the numbers of their components that it gives.
     Joins,
+    /// Two values, of which the bits of a third one choose.
+    Mixes,
+    /// An integer, and it gives an `int`: whether the highest bits of all components are 1, or else whether one is.
+    Tops(bool),
     Missing(Construct),
 }
 
 /// The functions of OpenCL 1.2, 6.12.2 to 6.12.6.
-static FUNCTIONS: [(&[u8], Form); 143] = [
+static FUNCTIONS: [(&[u8], Form); 146] = [
     (b"min", Form::Lesser),
     (b"max", Form::Greater),
     (b"clamp", Form::Clamped),
@@ -196,6 +200,9 @@ static FUNCTIONS: [(&[u8], Form); 143] = [
     (b"select", Form::Selects),
     (b"shuffle", Form::Shuffles),
     (b"shuffle2", Form::Joins),
+    (b"bitselect", Form::Mixes),
+    (b"any", Form::Tops(false)),
+    (b"all", Form::Tops(true)),
 ];
 
 /// The work-item functions (6.12.1).
@@ -344,14 +351,15 @@ impl Form {
             | Form::Offset
             | Form::Absolute
             | Form::FromBits
-            | Form::Exponent => 1,
+            | Form::Exponent
+            | Form::Tops(_) => 1,
             Form::Integers(count)
             | Form::Floats(count)
             | Form::Tests(count)
             | Form::Reduces(count)
             | Form::Spreads(count) => count,
             Form::Lesser | Form::Greater | Form::Product24 | Form::Scaled | Form::Shuffles => 2,
-            Form::Clamped | Form::Sum24 | Form::Selects | Form::Joins => 3,
+            Form::Clamped | Form::Sum24 | Form::Selects | Form::Joins | Form::Mixes => 3,
             Form::Missing(_) => 0,
         }
     }

@@ -19,7 +19,7 @@ ghost use Rattle.words.specs.View.{kind as kind_seen};
 
 use crate::calls;
 use crate::calls::{Call, argument, scalar_made, term_made, test};
-use crate::choices::{join_called, select_called, shuffle_called};
+use crate::choices::{join_called, mix_called, select_called, shuffle_called, tops_called};
 use crate::error::{Construct, Fault, ValueError, refused};
 use crate::functions::Form;
 use crate::saturation::has_bits_of;
@@ -333,6 +333,8 @@ pub fn result_of(
         Form::Selects => select_called(alloc, at, of),
         Form::Shuffles => shuffle_called(alloc, at, of),
         Form::Joins => join_called(alloc, at, of),
+        Form::Mixes => mix_called(alloc, at, of),
+        Form::Tops(is_all) => tops_called(alloc, is_all, at, of),
         _ => result_for(alloc, ids, called, at, of),
     }
 }

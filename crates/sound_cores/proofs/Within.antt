@@ -4,7 +4,7 @@ use Rattle.std.proofs.lemmas.Bool.{and_parts, ltb-true}
 use Rattle.semantics.specs.Core as core
 use Rattle.semantics.specs.Core.{Space, Global, Local, Array, Term, Literal, Variable, Id, Load, Unary, Binary, Convert, Compare, Not, And, Or, Select, Minimum, Maximum, Shift, Opaque, Statement, Set, Store, If, Loop, Barrier, Return, Break, Continue, Statements, none, one}
 use Rattle.sound_cores.specs.Declarations.{Declared, IsOf, TermWithin, Within, AllWithin}
-use Rattle.sound_cores.specs.Sound.{is_of, has_array, is_term_within, is_within, are_within}
+use Rattle.sound_cores.specs.Sound.{is_of, has_array, is_carried, may_become, is_term_within, is_within, are_within}
 
 of-space : (d : Declared) (s : Space) (n : ℕ) → is_of d s n ≡ true → IsOf d s n
 of-space d Global n h = ltb-true n d.buffers h
@@ -17,7 +17,7 @@ term-within d (Id k f i) h = tt
 term-within d (Load a site index) h = let p = and_parts (has_array d a) (is_term_within d index) h in (of-space d a.space a.number p.0, term-within d index p.1)
 term-within d (Unary op k site e) h = term-within d e h
 term-within d (Binary op k site left right) h = let p = and_parts (is_term_within d left) (is_term_within d right) h in (term-within d left p.0, term-within d right p.1)
-term-within d (Convert k site e) h = term-within d e h
+term-within d (Convert k site e) h = term-within d e (and_parts (may_become k e) (is_term_within d e) h).1
 term-within d (Compare r k left right) h = let p = and_parts (is_term_within d left) (is_term_within d right) h in (term-within d left p.0, term-within d right p.1)
 term-within d (Not e) h = term-within d e h
 term-within d (And left right) h = let p = and_parts (is_term_within d left) (is_term_within d right) h in (term-within d left p.0, term-within d right p.1)
@@ -31,7 +31,8 @@ term-within d (Maximum left right) h = let p = and_parts (is_term_within d left)
 term-within d (Shift o k value count) h = let p = and_parts (is_term_within d value) (is_term_within d count) h in (term-within d value p.0, term-within d count p.1)
 term-within d (core.Within site n index) h = term-within d index h
 term-within d (Opaque n at k a b c) h =
-    let p = and_parts (is_term_within d a) (is_term_within d b && is_term_within d c) h in
+    let r = and_parts (is_carried k) (is_term_within d a && (is_term_within d b && is_term_within d c)) h in
+    let p = and_parts (is_term_within d a) (is_term_within d b && is_term_within d c) r.1 in
     let q = and_parts (is_term_within d b) (is_term_within d c) p.1 in
     (term-within d a p.0, term-within d b q.0, term-within d c q.1)
 

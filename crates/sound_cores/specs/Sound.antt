@@ -1,6 +1,9 @@
 -- Sound cores: a test of any core, by one recursion each. Laws say that a core which passes keeps what each core of a text of the plain
--- language keeps. Numbers are to rise more strictly than in those, where the update of a `for` is numbered before its body.
+-- language keeps. Numbers are to rise more strictly than in those, where the update of a `for` is numbered before its body. Beside that no
+-- size is one that is not reckoned: a device may have more bits of it than a word carries.
 use Rattle.std.specs.Prelude.{ℕ, ◌+◌, Bool, true, false, ◌&&◌, nat_lt, nat_eq, cond, Option, Some, None}
+use Rattle.semantics.specs.Word as word
+use Rattle.semantics.specs.Word.{Kind}
 use Rattle.semantics.specs.Core as core
 use Rattle.semantics.specs.Core.{Space, Global, Local, Array, Term, Literal, Variable, Id, Load, Unary, Binary, Convert, Compare, Not, And, Or, Select, Minimum, Maximum, Shift, Opaque, Statement, Set, Store, If, Loop, Barrier, Return, Break, Continue, Statements, none, one}
 use Rattle.semantics.specs.Launch.{Kernel}
@@ -80,6 +83,19 @@ is_of d Local n = nat_lt n d.arrays
 abbrev pub has_array : Declared → Array → Bool
 has_array d a = is_of d a.space a.number
 
+-- what is not reckoned is of no kind of sizes, and is not made one at once, as a float is that becomes one
+abbrev pub is_carried : Kind → Bool
+is_carried word.Size = false
+is_carried k = true
+
+abbrev pub is_reckoned_first : Term → Bool
+is_reckoned_first (Opaque n at k a b c) = false
+is_reckoned_first e = true
+
+abbrev pub may_become : Kind → Term → Bool
+may_become word.Size e = is_reckoned_first e
+may_become k e = true
+
 abbrev pub is_term_within : Declared → Term → Bool
 is_term_within d (Literal k z) = true
 is_term_within d (Variable x) = nat_lt x d.slots
@@ -87,7 +103,7 @@ is_term_within d (Id k f i) = true
 is_term_within d (Load a site index) = has_array d a && is_term_within d index
 is_term_within d (Unary op k site e) = is_term_within d e
 is_term_within d (Binary op k site left right) = is_term_within d left && is_term_within d right
-is_term_within d (Convert k site e) = is_term_within d e
+is_term_within d (Convert k site e) = may_become k e && is_term_within d e
 is_term_within d (Compare r k left right) = is_term_within d left && is_term_within d right
 is_term_within d (Not e) = is_term_within d e
 is_term_within d (And left right) = is_term_within d left && is_term_within d right
@@ -97,7 +113,7 @@ is_term_within d (Minimum left right) = is_term_within d left && is_term_within 
 is_term_within d (Maximum left right) = is_term_within d left && is_term_within d right
 is_term_within d (Shift o k value count) = is_term_within d value && is_term_within d count
 is_term_within d (core.Within site n index) = is_term_within d index
-is_term_within d (Opaque n at k a b c) = is_term_within d a && (is_term_within d b && is_term_within d c)
+is_term_within d (Opaque n at k a b c) = is_carried k && (is_term_within d a && (is_term_within d b && is_term_within d c))
 
 abbrev mutual
   pub is_within : Declared → Statement → Bool

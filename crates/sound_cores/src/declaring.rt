@@ -1,12 +1,14 @@
-//! Whether statements name what is declared.
+//! Whether statements name what is declared, and no size is one that is not reckoned.
 
 ghost use Rattle.std.specs.Prelude.{◌≡◌, ◌&&◌};
 ghost use Rattle.core_code.specs.View.{array as array_seen, term as term_seen, statement as statement_seen, statements as statements_seen, kernel as kernel_seen};
 ghost use Rattle.sound_cores.specs.Declarations.{declared_by as declared_by_seen};
 ghost use Rattle.sound_cores.specs.Sound as specs;
 ghost use Rattle.sound_cores.specs.View.{declared};
+ghost use Rattle.words.specs.View.{kind as kind_seen};
 
 use core_code::tree::{Array, Core, Space, Statement, Term};
+use words::Kind;
 
 /// How many slots, buffers and local arrays a kernel declares.
 #[derive(Clone, Copy)]
@@ -36,6 +38,49 @@ fn has_array(d: Declared, array: Array) -> bool
     }
 }
 
+/// Whether a value that is not reckoned has as many bits as a word: a size may have more.
+fn is_carried(kind: Kind) -> bool
+    ensures { result ≡ specs.is_carried (kind_seen kind) }
+{
+    match kind {
+        Kind::Size => false,
+        Kind::Int | Kind::Uint => true,
+    }
+}
+
+fn is_reckoned_first(term: &Term) -> bool
+    ensures { result ≡ specs.is_reckoned_first (term_seen term.now) }
+{
+    match term {
+        Term::Opaque { .. } => false,
+        Term::Literal { .. }
+        | Term::Variable { .. }
+        | Term::Id { .. }
+        | Term::Load { .. }
+        | Term::Unary { .. }
+        | Term::Binary { .. }
+        | Term::Convert { .. }
+        | Term::Compare { .. }
+        | Term::Not { .. }
+        | Term::And { .. }
+        | Term::Or { .. }
+        | Term::Select { .. }
+        | Term::Minimum { .. }
+        | Term::Maximum { .. }
+        | Term::Shift { .. }
+        | Term::Within { .. } => true,
+    }
+}
+
+fn may_become(kind: Kind, of: &Term) -> bool
+    ensures { result ≡ specs.may_become (kind_seen kind) (term_seen of.now) }
+{
+    match kind {
+        Kind::Size => is_reckoned_first(of),
+        Kind::Int | Kind::Uint => true,
+    }
+}
+
 fn is_term_within(d: Declared, term: &Term) -> bool
     ensures { result ≡ specs.is_term_within (declared d) (term_seen term.now) }
 {
@@ -43,9 +88,8 @@ fn is_term_within(d: Declared, term: &Term) -> bool
         Term::Literal { .. } | Term::Id { .. } => true,
         Term::Variable { slot } => (*slot as usize) < d.slots,
         Term::Load { array, index, .. } => has_array(d, *array) && is_term_within(d, index),
-        Term::Unary { of, .. } | Term::Convert { of, .. } | Term::Not { of } => {
-            is_term_within(d, of)
-        }
+        Term::Unary { of, .. } | Term::Not { of } => is_term_within(d, of),
+        Term::Convert { kind, of, .. } => may_become(*kind, of) && is_term_within(d, of),
         Term::Within { index, .. } => is_term_within(d, index),
         Term::Binary { left, right, .. }
         | Term::Compare { left, right, .. }
@@ -60,11 +104,19 @@ fn is_term_within(d: Declared, term: &Term) -> bool
         } => is_term_within(d, test) && is_term_within(d, taken) && is_term_within(d, skipped),
         Term::Shift { value, count, .. } => is_term_within(d, value) && is_term_within(d, count),
         Term::Opaque {
+            kind,
             first,
             second,
             third,
             ..
-        } => is_term_within(d, first) && is_term_within(d, second) && is_term_within(d, third),
+        } => {
+            is_carried(*kind)
+                && all_three(
+                    is_term_within(d, first),
+                    is_term_within(d, second),
+                    is_term_within(d, third),
+                )
+        }
     }
 }
 

@@ -6,19 +6,19 @@ pthread_mutex_t lock = PTHREAD_MUTEX_INITIALIZER;
 static cl_icd_dispatch here;
 
 /* Retains and releases. What the program lets go is forgotten before OpenCL can give its handle to something else. */
-#define COUNTED(TYPE, NAME, CALL, KIND)                                 \
-    static cl_int CL_API_CALL retain_##NAME(TYPE handle) {              \
-        cl_int error = below.clRetain##CALL(handle);                    \
+#define COUNTED(TYPE, NAME, KIND)                                       \
+    static cl_int CL_API_CALL own_clRetain##NAME(TYPE handle) {         \
+        cl_int error = below.clRetain##NAME(handle);                    \
         if (!error) LOCKED(object_retain(handle, KIND));                \
         return error;                                                   \
     }                                                                   \
-    static cl_int CL_API_CALL release_##NAME(TYPE handle) {             \
+    static cl_int CL_API_CALL own_clRelease##NAME(TYPE handle) {        \
         LOCKED(object_release(handle, KIND));                           \
-        return below.clRelease##CALL(handle);                           \
+        return below.clRelease##NAME(handle);                           \
     }
-COUNTED(cl_program, program, Program, OBJECT_PROGRAM)
-COUNTED(cl_kernel, kernel, Kernel, OBJECT_KERNEL)
-COUNTED(cl_mem, memory, MemObject, OBJECT_MEMORY)
+COUNTED(cl_program, Program, OBJECT_PROGRAM)
+COUNTED(cl_kernel, Kernel, OBJECT_KERNEL)
+COUNTED(cl_mem, MemObject, OBJECT_MEMORY)
 
 /* ---- programs ---- */
 
@@ -38,7 +38,7 @@ static cl_program keep_program(cl_program handle, cl_context context, const stru
     return handle;
 }
 
-static cl_program CL_API_CALL create_program_with_source(cl_context context, cl_uint n, const char **strings, const size_t *lengths,
+static cl_program CL_API_CALL own_clCreateProgramWithSource(cl_context context, cl_uint n, const char **strings, const size_t *lengths,
                                                          cl_int *error) {
     cl_program program = below.clCreateProgramWithSource(context, n, strings, lengths, error);
     struct text text = {0};
@@ -50,28 +50,23 @@ static cl_program CL_API_CALL create_program_with_source(cl_context context, cl_
     return program;
 }
 
-static cl_program CL_API_CALL create_program_with_binary(cl_context context, cl_uint n, const cl_device_id *devices, const size_t *lengths,
-                                                         const unsigned char **binaries, cl_int *states, cl_int *error) {
-    cl_program program = below.clCreateProgramWithBinary(context, n, devices, lengths, binaries, states, error);
-    return keep_program(program, context, NULL, "its program is a binary");
-}
-
-static cl_program CL_API_CALL create_program_with_built_in(cl_context context, cl_uint n, const cl_device_id *devices, const char *names,
-                                                           cl_int *error) {
-    cl_program program = below.clCreateProgramWithBuiltInKernels(context, n, devices, names, error);
-    return keep_program(program, context, NULL, "it is built into the device");
-}
-
-static cl_program CL_API_CALL create_program_with_il(cl_context context, const void *il, size_t n, cl_int *error) {
-    return keep_program(below.clCreateProgramWithIL(context, il, n, error), context, NULL, "its program is of an intermediate language");
-}
-
-static cl_program CL_API_CALL link_program(cl_context context, cl_uint devices_n, const cl_device_id *devices, const char *options,
-                                           cl_uint n, const cl_program *programs, void(CL_CALLBACK *notify)(cl_program, void *), void *data,
-                                           cl_int *error) {
-    cl_program program = below.clLinkProgram(context, devices_n, devices, options, n, programs, notify, data, error);
-    return keep_program(program, context, NULL, "its program was linked");
-}
+/* Programs of something else than a text. */
+#define OF_NO_TEXT(CALL, WHY, PARAMETERS, ARGUMENTS)                      \
+    static cl_program CL_API_CALL own_##CALL PARAMETERS {                 \
+        return keep_program(below.CALL ARGUMENTS, context, NULL, WHY);    \
+    }
+OF_NO_TEXT(clCreateProgramWithBinary, "its program is a binary",
+           (cl_context context, cl_uint n, const cl_device_id *devices, const size_t *lengths, const unsigned char **binaries,
+            cl_int *states, cl_int *error), (context, n, devices, lengths, binaries, states, error))
+OF_NO_TEXT(clCreateProgramWithBuiltInKernels, "it is built into the device",
+           (cl_context context, cl_uint n, const cl_device_id *devices, const char *names, cl_int *error),
+           (context, n, devices, names, error))
+OF_NO_TEXT(clCreateProgramWithIL, "its program is of an intermediate language",
+           (cl_context context, const void *il, size_t n, cl_int *error), (context, il, n, error))
+OF_NO_TEXT(clLinkProgram, "its program was linked",
+           (cl_context context, cl_uint devices_n, const cl_device_id *devices, const char *options, cl_uint n, const cl_program *programs,
+            void(CL_CALLBACK *notify)(cl_program, void *), void *data, cl_int *error),
+           (context, devices_n, devices, options, n, programs, notify, data, error))
 
 /* The extensions of a program's devices, which have to be alike. */
 static void extensions_of(cl_program program, struct text *extensions, struct text *why) {
@@ -120,7 +115,7 @@ static void keep_build(cl_program handle, const char *options, bool some, const 
     text_free(&extensions);
 }
 
-static cl_int CL_API_CALL build_program(cl_program program, cl_uint n, const cl_device_id *devices, const char *options,
+static cl_int CL_API_CALL own_clBuildProgram(cl_program program, cl_uint n, const cl_device_id *devices, const char *options,
                                         void(CL_CALLBACK *notify)(cl_program, void *), void *data) {
     cl_int error;
     /* (what is known has to be there before `notify` is called) */
@@ -131,7 +126,7 @@ static cl_int CL_API_CALL build_program(cl_program program, cl_uint n, const cl_
     return error;
 }
 
-static cl_int CL_API_CALL compile_program(cl_program program, cl_uint n, const cl_device_id *devices, const char *options,
+static cl_int CL_API_CALL own_clCompileProgram(cl_program program, cl_uint n, const cl_device_id *devices, const char *options,
                                           cl_uint headers_n, const cl_program *headers, const char **names,
                                           void(CL_CALLBACK *notify)(cl_program, void *), void *data) {
     keep_build(program, "", false, "its program was compiled and linked");
@@ -168,13 +163,13 @@ static void keep_kernel(cl_kernel handle, cl_program made_of, const char *name) 
     pthread_mutex_unlock(&lock);
 }
 
-static cl_kernel CL_API_CALL create_kernel(cl_program program, const char *name, cl_int *error) {
+static cl_kernel CL_API_CALL own_clCreateKernel(cl_program program, const char *name, cl_int *error) {
     cl_kernel kernel = below.clCreateKernel(program, name, error);
     if (kernel) keep_kernel(kernel, program, name);
     return kernel;
 }
 
-static cl_int CL_API_CALL create_kernels(cl_program program, cl_uint n, cl_kernel *kernels, cl_uint *kernels_n) {
+static cl_int CL_API_CALL own_clCreateKernelsInProgram(cl_program program, cl_uint n, cl_kernel *kernels, cl_uint *kernels_n) {
     cl_uint made = 0, at;
     cl_int error = below.clCreateKernelsInProgram(program, n, kernels, &made);
     if (kernels_n) *kernels_n = made;
@@ -185,7 +180,7 @@ static cl_int CL_API_CALL create_kernels(cl_program program, cl_uint n, cl_kerne
     return error;
 }
 
-static cl_kernel CL_API_CALL clone_kernel(cl_kernel source, cl_int *error) {
+static cl_kernel CL_API_CALL own_clCloneKernel(cl_kernel source, cl_int *error) {
     cl_kernel handle = below.clCloneKernel(source, error);
     struct kernel *kernel = handle ? calloc(1, sizeof *kernel) : NULL;
     const struct kernel *old;
@@ -230,11 +225,11 @@ static cl_int keep_argument(cl_int error, cl_kernel handle, cl_uint at, size_t n
     return error;
 }
 
-static cl_int CL_API_CALL set_kernel_arg(cl_kernel kernel, cl_uint at, size_t n, const void *value) {
+static cl_int CL_API_CALL own_clSetKernelArg(cl_kernel kernel, cl_uint at, size_t n, const void *value) {
     return keep_argument(below.clSetKernelArg(kernel, at, n, value), kernel, at, n, value, false);
 }
 
-static cl_int CL_API_CALL set_kernel_arg_svm(cl_kernel kernel, cl_uint at, const void *value) {
+static cl_int CL_API_CALL own_clSetKernelArgSVMPointer(cl_kernel kernel, cl_uint at, const void *value) {
     return keep_argument(below.clSetKernelArgSVMPointer(kernel, at, value), kernel, at, 0, NULL, true);
 }
 
@@ -261,11 +256,11 @@ static cl_mem keep_buffer(cl_mem handle, cl_mem_flags flags, size_t n, const voi
     return handle;
 }
 
-static cl_mem CL_API_CALL create_buffer(cl_context context, cl_mem_flags flags, size_t n, void *given, cl_int *error) {
+static cl_mem CL_API_CALL own_clCreateBuffer(cl_context context, cl_mem_flags flags, size_t n, void *given, cl_int *error) {
     return keep_buffer(below.clCreateBuffer(context, flags, n, given, error), flags, n, given, NULL, 0);
 }
 
-static cl_mem CL_API_CALL create_sub_buffer(cl_mem whole, cl_mem_flags flags, cl_buffer_create_type type, const void *given,
+static cl_mem CL_API_CALL own_clCreateSubBuffer(cl_mem whole, cl_mem_flags flags, cl_buffer_create_type type, const void *given,
                                             cl_int *error) {
     cl_mem handle = below.clCreateSubBuffer(whole, flags, type, given, error);
     const cl_buffer_region *region = given;
@@ -275,17 +270,19 @@ static cl_mem CL_API_CALL create_sub_buffer(cl_mem whole, cl_mem_flags flags, cl
 
 /* ---- launches ---- */
 
-static cl_int CL_API_CALL enqueue_kernel(cl_command_queue queue, cl_kernel kernel, cl_uint dimensions, const size_t *offset,
+static cl_int CL_API_CALL own_clEnqueueNDRangeKernel(cl_command_queue queue, cl_kernel kernel, cl_uint dimensions, const size_t *offset,
                                          const size_t *global, const size_t *local, cl_uint events_n, const cl_event *events,
                                          cl_event *event) {
-    if (!policy_allows(queue, kernel, dimensions, offset, global, local)) return CL_INVALID_OPERATION;
+    const struct call call = {queue, kernel, dimensions, offset, global, local, events_n, events};
+    if (!policy_allows(&call)) return CL_INVALID_OPERATION;
     return below.clEnqueueNDRangeKernel(queue, kernel, dimensions, offset, global, local, events_n, events, event);
 }
 
-static cl_int CL_API_CALL enqueue_task(cl_command_queue queue, cl_kernel kernel, cl_uint events_n, const cl_event *events,
+static cl_int CL_API_CALL own_clEnqueueTask(cl_command_queue queue, cl_kernel kernel, cl_uint events_n, const cl_event *events,
                                        cl_event *event) {
     const size_t one = 1;
-    if (!policy_allows(queue, kernel, 1, NULL, &one, &one)) return CL_INVALID_OPERATION;
+    const struct call call = {queue, kernel, 1, NULL, &one, &one, events_n, events};
+    if (!policy_allows(&call)) return CL_INVALID_OPERATION;
     return below.clEnqueueTask(queue, kernel, events_n, events, event);
 }
 
@@ -301,31 +298,18 @@ CL_API_ENTRY cl_int CL_API_CALL clGetLayerInfo(cl_layer_info name, size_t n, voi
     return CL_SUCCESS;
 }
 
+#define CALLS(TAKE)                                                                                                                     \
+    TAKE(clCreateProgramWithSource) TAKE(clCreateProgramWithBinary) TAKE(clCreateProgramWithBuiltInKernels) TAKE(clCreateProgramWithIL) \
+    TAKE(clLinkProgram) TAKE(clBuildProgram) TAKE(clCompileProgram) TAKE(clRetainProgram) TAKE(clReleaseProgram) TAKE(clCreateKernel)   \
+    TAKE(clCreateKernelsInProgram) TAKE(clCloneKernel) TAKE(clRetainKernel) TAKE(clReleaseKernel) TAKE(clSetKernelArg)                  \
+    TAKE(clSetKernelArgSVMPointer) TAKE(clCreateBuffer) TAKE(clCreateSubBuffer) TAKE(clRetainMemObject) TAKE(clReleaseMemObject)        \
+    TAKE(clEnqueueNDRangeKernel) TAKE(clEnqueueTask)
+
 CL_API_ENTRY cl_int CL_API_CALL clInitLayer(cl_uint n, const cl_icd_dispatch *target, cl_uint *needed, const cl_icd_dispatch **layer) {
     if (!target || !needed || !layer || n < sizeof here / sizeof(void *)) return CL_INVALID_VALUE;
     below = here = *target;
-    here.clCreateProgramWithSource = create_program_with_source;
-    here.clCreateProgramWithBinary = create_program_with_binary;
-    here.clCreateProgramWithBuiltInKernels = create_program_with_built_in;
-    here.clCreateProgramWithIL = create_program_with_il;
-    here.clLinkProgram = link_program;
-    here.clRetainProgram = retain_program;
-    here.clReleaseProgram = release_program;
-    here.clBuildProgram = build_program;
-    here.clCompileProgram = compile_program;
-    here.clCreateKernel = create_kernel;
-    here.clCreateKernelsInProgram = create_kernels;
-    here.clCloneKernel = clone_kernel;
-    here.clRetainKernel = retain_kernel;
-    here.clReleaseKernel = release_kernel;
-    here.clSetKernelArg = set_kernel_arg;
-    here.clSetKernelArgSVMPointer = set_kernel_arg_svm;
-    here.clCreateBuffer = create_buffer;
-    here.clCreateSubBuffer = create_sub_buffer;
-    here.clRetainMemObject = retain_memory;
-    here.clReleaseMemObject = release_memory;
-    here.clEnqueueNDRangeKernel = enqueue_kernel;
-    here.clEnqueueTask = enqueue_task;
+#define TAKE(CALL) here.CALL = own_##CALL;
+    CALLS(TAKE)
     policy_begin();
     *needed = sizeof here / sizeof(void *);
     *layer = &here;

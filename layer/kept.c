@@ -1,7 +1,9 @@
-/* kept.c: what lies in folders. KVERIFY_CACHE has certificates, KVERIFY_CONDITIONS conditions by hand, and KVERIFY_LOG what was not shown.
+/* kept.c: what lies in folders. KVERIFY_CACHE has certificates, KVERIFY_CONDITIONS conditions by hand, KVERIFY_DRAFT conditions that were
+ * shown, and KVERIFY_LOG what was not shown.
  *
  * Nobody need trust a cache: each certificate is checked again when it is read, against the text that the program handed over. */
 #include "layer.h"
+#include <unistd.h>
 
 #define PATH_MOST 4096
 #define KEPT_MOST 64
@@ -15,9 +17,15 @@ static bool cache_path(const struct subject *subject, unsigned number, const cha
            PATH_MOST;
 }
 
-/* What a buffer holds nobody but the program's owner can answer for: such conditions come from KVERIFY_CONDITIONS alone. */
-static bool has_values(const struct text *conditions) {
-    return strstr(words_of(conditions), "\nvalues ") != NULL;
+static bool named_path(const char *folder, const struct subject *subject, char *path) {
+    return snprintf(path, PATH_MOST, "%s/%s.conditions", folder, subject->name) < PATH_MOST;
+}
+
+/* Where a file says which launches are allowed, no other conditions count. */
+static bool is_allowed(const struct subject *subject, const struct text *conditions) {
+    const struct text *given = &subject->given;
+    bool is_same = given->n == conditions->n && !memcmp(words_of(given), words_of(conditions), given->n);
+    return conditions_fit(subject, conditions) && (!subject_is_given(subject) || is_same);
 }
 
 static bool load(struct subject *subject, unsigned number) {
@@ -25,7 +33,7 @@ static bool load(struct subject *subject, unsigned number) {
     char path[PATH_MOST];
     kv_answer told;
     bool is_there = cache_path(subject, number, "conditions", path) && text_read(&conditions, path);
-    if (is_there && conditions_fit(subject, &conditions) && !has_values(&conditions) && cache_path(subject, number, "certificate", path) &&
+    if (is_there && is_allowed(subject, &conditions) && cache_path(subject, number, "certificate", path) &&
         text_read(&certificate, path) && !asking_keep(subject, &conditions, &certificate, &told))
         policy_tell("%s: a certificate of the cache is not taken: refused %u", subject->name, told.number);
     text_free(&conditions);
@@ -41,17 +49,23 @@ void kept_load(struct subject *subject) {
 
 void kept_save(struct subject *subject, const struct text *conditions, const struct text *certificate) {
     char path[PATH_MOST];
-    if (!settings.cache || subject->kept_n >= KEPT_MOST || has_values(conditions)) return;
+    if (!settings.cache || subject->kept_n >= KEPT_MOST) return;
     if (cache_path(subject, subject->kept_n, "certificate", path) && text_write(certificate->bytes, certificate->n, path) &&
         cache_path(subject, subject->kept_n, "conditions", path) && text_write(conditions->bytes, conditions->n, path))
         subject->kept_n++;
 }
 
-bool kept_conditions(const struct subject *subject, struct text *conditions) {
+/* A file that is there and cannot be read is no reason to go by other conditions. */
+void kept_conditions(struct subject *subject) {
     char path[PATH_MOST];
-    if (!settings.conditions) return false;
-    if (snprintf(path, sizeof path, "%s/%s.conditions", settings.conditions, subject->name) >= PATH_MOST) return false;
-    return text_read(conditions, path) && conditions->n;
+    if (!settings.conditions || !named_path(settings.conditions, subject, path)) return;
+    if (!access(path, F_OK) && !text_read(&subject->given, path)) subject->given.is_short = true;
+}
+
+bool kept_draft(const struct subject *subject) {
+    const char *text = subject->drafted->conditions;
+    char path[PATH_MOST];
+    return named_path(settings.draft, subject, path) && text_write(text, strlen(text), path);
 }
 
 static bool log_write(const struct subject *subject, const char *kind, const char *bytes, size_t n) {

@@ -1,33 +1,34 @@
 /* launches.c: a launch, as kverify.h has it. */
 #include "layer.h"
+#include <stdarg.h>
 
-static bool is_refused(struct answer *answer, enum verdict verdict, const char *why, unsigned at) {
+bool answer_is(struct answer *answer, enum verdict verdict, const char *format, ...) {
+    va_list words;
     answer->verdict = verdict;
-    snprintf(answer->words, sizeof answer->words, why, at);
+    va_start(words, format);
+    vsnprintf(answer->words, sizeof answer->words, format, words);
+    va_end(words);
     return false;
 }
 
-bool launch_is_faulty(const struct kernel *kernel, cl_uint dimensions, const size_t *global, const size_t *local) {
+bool launch_is_faulty(const struct kernel *kernel, const struct call *call) {
     cl_uint at;
-    if (dimensions < 1 || dimensions > 3 || !global) return true;
-    for (at = 0; at < dimensions; at++)
-        if (local && !local[at]) return true;
+    if (call->dimensions < 1 || call->dimensions > 3 || !call->global) return true;
+    for (at = 0; at < call->dimensions; at++)
+        if (call->local && !call->local[at]) return true;
     for (at = 0; at < kernel->arguments_n; at++)
         if (!kernel->arguments[at].is_set) return true;
     return false;
 }
 
-static bool sizes_make(kv_range *range, const struct kernel *kernel, cl_uint dimensions, const size_t *offset, const size_t *global,
-                       const size_t *local, struct answer *answer) {
+static bool sizes_make(kv_range *range, const struct kernel *kernel, const struct call *call, struct answer *answer) {
     cl_uint at;
-    if (!local && !kernel->size[0])
-        return is_refused(answer, NOT_SHOWN, "no local size: the device chooses one", 0);
-    range->dimensions = dimensions;
-    for (at = 0; at < dimensions; at++) {
-        range->offset[at] = offset ? offset[at] : 0;
-        range->global[at] = global[at];
-        range->local[at] = local ? local[at] : kernel->size[at];
-        if (range->offset[at]) return is_refused(answer, NOT_SHOWN, "a global offset in dimension %u", at);
+    if (!call->local && !kernel->size[0]) return answer_is(answer, NOT_SHOWN, "no local size: the device chooses one");
+    range->dimensions = call->dimensions;
+    for (at = 0; at < call->dimensions; at++) {
+        range->global[at] = call->global[at];
+        range->local[at] = call->local ? call->local[at] : kernel->size[at];
+        if (call->offset && call->offset[at]) return answer_is(answer, NOT_SHOWN, "a global offset in dimension %u", at);
     }
     return true;
 }
@@ -55,21 +56,22 @@ static void number(struct launch *launch, const struct memory *const *memories) 
     }
 }
 
-bool launch_make(struct launch *launch, const struct kernel *kernel, cl_uint dimensions, const size_t *offset, const size_t *global,
-                 const size_t *local, struct answer *answer) {
+bool launch_make(struct launch *launch, const struct kernel *kernel, const struct call *call, struct answer *answer) {
     const struct memory *memories[ARGUMENTS_MOST] = {0};
     cl_uint at;
     memset(&launch->range, 0, sizeof launch->range);
     launch->read_only = 0;
+    launch->has_contents = false;
     launch->arguments_n = kernel->arguments_n;
-    if (kernel->arguments_n > ARGUMENTS_MOST) return is_refused(answer, NOT_READ, "over %u arguments", ARGUMENTS_MOST);
-    if (!sizes_make(&launch->range, kernel, dimensions, offset, global, local, answer)) return false;
+    if (kernel->arguments_n > ARGUMENTS_MOST) return answer_is(answer, NOT_READ, "over %d arguments", ARGUMENTS_MOST);
+    if (!sizes_make(&launch->range, kernel, call, answer)) return false;
     for (at = 0; at < kernel->arguments_n; at++) {
         const struct argument *argument = &kernel->arguments[at];
-        if (argument->is_unknown) return is_refused(answer, NOT_READ, "argument %u is of a kind that is not read", at);
+        if (argument->is_unknown) return answer_is(answer, NOT_READ, "argument %u is of a kind that is not read", at);
         memories[at] = memory_of(argument);
-        if (argument->memory && !memories[at]) return is_refused(answer, NOT_SHOWN, "the buffer of argument %u was let go", at);
+        if (argument->memory && !memories[at]) return answer_is(answer, NOT_SHOWN, "the buffer of argument %u was let go", at);
         launch->arguments[at] = argument->said;
+        launch->contents[at] = (struct contents){0, 0, 0};
     }
     number(launch, memories);
     return true;
@@ -78,5 +80,6 @@ bool launch_make(struct launch *launch, const struct kernel *kernel, cl_uint dim
 bool launch_is_same(const struct launch *one, const struct launch *other) {
     return one->arguments_n == other->arguments_n && one->read_only == other->read_only &&
            !memcmp(&one->range, &other->range, sizeof one->range) &&
-           !memcmp(one->arguments, other->arguments, one->arguments_n * sizeof *one->arguments);
+           !memcmp(one->arguments, other->arguments, one->arguments_n * sizeof *one->arguments) &&
+           !memcmp(one->contents, other->contents, one->arguments_n * sizeof *one->contents);
 }

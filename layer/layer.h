@@ -18,10 +18,13 @@
 #include <stdio.h>
 #include <stdlib.h>
 #include <string.h>
+#include <time.h>
 #include "kverify.h"
 
 #define ARGUMENTS_MOST 64
 #define WORDS_MOST 200
+/* How many questions of one kernel are asked in vain. */
+#define REFUSED_MOST 8
 #define WANT_OF_MEMORY "want of memory"
 
 /* OpenCL below this layer. */
@@ -91,29 +94,44 @@ void object_retain(const void *handle, enum object_kind kind);
 void object_release(const void *handle, enum object_kind kind);
 
 /* ---- launches.c: a launch, as kverify.h has it. ---- */
+/* As clEnqueueNDRangeKernel gets it. */
+struct call {
+    cl_command_queue queue;
+    cl_kernel kernel;
+    cl_uint dimensions;
+    const size_t *offset, *global, *local;
+    cl_uint events_n;
+    const cl_event *events;
+};
+/* The least and the greatest word of a buffer. */
+struct contents {
+    int64_t least, most;
+    uint64_t is_read;
+};
 struct launch {
     kv_range range;
     uint32_t arguments_n;
+    bool has_contents;  /* it was read what some of the buffers hold */
     uint64_t read_only; /* a bit for each argument that is a buffer which kernels only read */
     kv_argument arguments[ARGUMENTS_MOST];
+    struct contents contents[ARGUMENTS_MOST];
 };
 enum verdict { ACCEPTED, NOT_SHOWN, NOT_READ, PENDING };
 struct answer {
     enum verdict verdict;
     char words[WORDS_MOST]; /* why not */
 };
+/* Puts words into an answer that is not shown, or not read; gives false. */
+bool answer_is(struct answer *answer, enum verdict verdict, const char *format, ...) __attribute__((format(printf, 3, 4)));
 /* Whether there is something to ask; else the answer says why not. */
-bool launch_make(struct launch *launch, const struct kernel *kernel, cl_uint dimensions, const size_t *offset, const size_t *global,
-                 const size_t *local, struct answer *answer);
+bool launch_make(struct launch *launch, const struct kernel *kernel, const struct call *call, struct answer *answer);
 bool launch_is_same(const struct launch *one, const struct launch *other);
 /* Whether the program's own OpenCL refuses the launch, so that nothing is asked. */
-bool launch_is_faulty(const struct kernel *kernel, cl_uint dimensions, const size_t *global, const size_t *local);
+bool launch_is_faulty(const struct kernel *kernel, const struct call *call);
 
 /* ---- options.c: the options of a build. ---- */
 /* Puts lines `define` into `defines`, or into `why` what kverify cannot be told of. `extensions` are those of the devices. */
 void options_read(const char *options, const struct source *source, const char *extensions, struct text *defines, struct text *why);
-/* ---- names.c ---- */
-bool name_is_of_standard(const char *name, size_t n);
 
 /* ---- subjects.c: kernels, by what they are made of; they stay to the end. ---- */
 struct source {
@@ -129,10 +147,12 @@ struct parameter {
     unsigned bytes, components; /* of a component; how many there are. 0: not known yet */
     bool is_unsigned, is_float, is_guess;
 };
-/* A certificate that was checked. */
+/* A certificate that was checked, with its conditions. */
 struct shown {
     struct shown *next;
     kv_kernel *handle;
+    bool has_values; /* lines `values` are among them */
+    char conditions[];
 };
 struct outcome {
     struct outcome *next;
@@ -153,7 +173,9 @@ struct subject {
     struct subject *next;
     struct source *source;
     char *name, *defines, *options, *why;
+    struct text given; /* conditions of a file, or empty */
     bool was_loaded, has_parameters, is_unread;
+    bool is_late, is_long; /* its buffers were not read in time, or were too long for that */
     struct answer unread; /* why kverify does not read its text */
     unsigned parameters_n, shown_n, refused_n, waiting_n;
     unsigned kept_n, logged_n; /* how many files of it there are in the cache, and in the log */
@@ -164,46 +186,103 @@ struct subject {
     struct shown *shown;
     struct question *questions;
     struct outcome *outcomes;
+    /* The launches that its draft covers, and the certificate of that, or NULL. */
+    struct hull *draft;
+    struct shown *drafted;
+    bool is_settled, has_no_draft;
+    unsigned apart_n; /* how many launches no draft covered */
 };
 extern struct subject *subjects, strangers;
 struct source *source_of(const char *bytes, size_t n);
 struct subject *subject_of(struct source *source, const char *name, const char *defines, const char *options, const char *why);
+bool subject_is_given(const struct subject *subject);
 /* Counts launches under what came of them, and tells of the first one. */
 void subject_count(struct subject *subject, const struct answer *answer, uint64_t launches);
-/* What is known of a launch by certificates that are there; the lock is held. */
-bool subject_allows(struct subject *subject, const struct launch *launch, struct answer *answer);
+/* These want the lock to be held. What is known of a launch by certificates that are there: by the draft's alone, where there is one, or by
+ * any. */
+bool subject_allows(struct subject *subject, const struct launch *launch, bool by_any, struct answer *answer);
+/* Whether a certificate allows a launch, which is remembered then. */
+bool subject_admits(struct subject *subject, struct shown *shown, const struct launch *launch, struct answer *answer);
+/* Puts what a certificate shows in the place of the draft. */
+void subject_draft(struct subject *subject, struct shown *shown);
 
 /* ---- parameters.c: names and types of a kernel's parameters, by a build of the layer's own. ---- */
 bool parameters_learn(struct subject *subject, cl_context context, cl_device_id device);
 void parameters_forget(void);
 
-/* ---- conditions.c: conditions that a launch meets. ---- */
+/* ---- conditions.c: conditions that launches meet. ---- */
 enum breadth { GENERAL, EXACT };
+#define NUMBERS_MOST 24
+#define FACTORS 6
+#define SUMS_MOST (FACTORS * (NUMBERS_MOST + NUMBERS_MOST * NUMBERS_MOST) + NUMBERS_MOST)
+/* A number that a launch is known by: `factor*name`. The value is 0 where it is not above that. */
+struct number {
+    char name[144];
+    uint64_t factor, value;
+};
+struct numbers {
+    struct number at[NUMBERS_MOST];
+    unsigned n;
+};
+/* Of each sum of numbers a bit: that it was equal to a buffer's length once; that it was never above it; that no word of the buffer was
+ * ever above it, or that each was below it. */
+enum relation { EQUALS, FITS, REACHES, PASSES, RELATIONS };
+struct sums {
+    unsigned char bits[RELATIONS][SUMS_MOST / 8 + 1];
+};
+/* Launches together: the least and the greatest of their numbers, and what held at each of them. */
+struct hull {
+    bool has_launches;
+    struct launch low, high;
+    struct numbers numbers; /* those of the last one */
+    struct sums sums[ARGUMENTS_MOST];
+};
+/* Whether a launch can be among the others; it is then. */
+bool hull_join(const struct subject *subject, struct hull *hull, const struct launch *launch);
 /* The lines in front: of the kernel, the options, and the size of a work-group. */
 void conditions_head(const struct subject *subject, const struct launch *launch, struct text *conditions);
-void conditions_write(const struct subject *subject, const struct launch *launch, enum breadth breadth, struct text *conditions);
-/* Finds the sizes of elements whose type's name says nothing. Answers as kv_meets of the exact conditions. */
-uint32_t conditions_try(struct subject *subject, const struct launch *launch, struct text *conditions, kv_answer *answer);
+/* How conditions are written, with lines `values` of the arguments that have a bit, as far as it was read what these hold. */
+struct manner {
+    enum breadth breadth;
+    uint64_t values;
+};
+/* Writes conditions that the launches meet. */
+void conditions_write(const struct subject *subject, const struct hull *hull, struct manner manner, struct text *conditions);
+/* Finds the sizes of elements whose type's name says nothing. Answers as kv_meets of the exact conditions, and leaves them. */
+uint32_t conditions_try(struct subject *subject, const struct launch *launch, struct hull *hull, struct text *conditions,
+                        kv_answer *answer);
 /* Whether conditions from elsewhere speak of this kernel, and of a program that was built so. */
 bool conditions_fit(const struct subject *subject, const struct text *conditions);
+/* The argument of which the line `length` speaks that has this number, or this name; or -1. They stand in the order of the buffers. */
+int conditions_buffer(const char *text, const struct launch *launch, uint64_t number, const char *name, size_t n);
+/* The line behind a line, or NULL. */
+const char *next_line(const char *line);
+
+/* ---- contents.c: what buffers hold. ---- */
+/* Reads the buffers of which conditions speak that are there, or else all those of integers that a kernel only loads. The lock is held, and
+ * is let go in between; the kernel may be gone then. */
+void contents_read(struct subject *subject, struct launch *launch, const struct kernel *kernel, const struct call *call);
+/* Whether the buffers hold what the lines `values` say, of conditions that the launch meets but for them; else the answer says why not. */
+bool contents_hold(const struct subject *subject, const char *conditions, const struct launch *launch, struct answer *answer);
 
 /* ---- process.c: the program `kverify`, as a process. ---- */
 enum ending { ENDED, TOO_LONG, NOT_STARTED };
 enum ending process_run(const char *command, const struct source *source, const struct text *conditions, struct text *output,
                         struct text *certificate, double deadline);
 
-/* ---- kept.c: what lies in folders: certificates, conditions by hand, what was refused. ---- */
+/* ---- kept.c: what lies in folders: certificates, conditions by hand, drafts, what was refused. ---- */
 void kept_load(struct subject *subject);
 void kept_save(struct subject *subject, const struct text *conditions, const struct text *certificate);
-bool kept_conditions(const struct subject *subject, struct text *conditions);
+void kept_conditions(struct subject *subject);
+bool kept_draft(const struct subject *subject);
 void kept_log(struct subject *subject, const struct text *conditions, const struct answer *answer);
 
 /* ---- asking.c: the thread that asks. ---- */
 /* The answer for a launch; it may be PENDING where the launch does not wait for it. The lock is held, and is let go in between. */
 void asking_of(struct subject *subject, cl_context context, const struct launch *launch, cl_command_queue queue, bool waits,
                struct answer *answer);
-/* Checks a certificate, and keeps it. */
-bool asking_keep(struct subject *subject, const struct text *conditions, const struct text *certificate, kv_answer *answer);
+/* Checks a certificate, and keeps it, or gives NULL. */
+struct shown *asking_keep(struct subject *subject, const struct text *conditions, const struct text *certificate, kv_answer *answer);
 /* Ends what goes on, within the time for one answer. */
 void asking_end(void);
 
@@ -211,17 +290,17 @@ void asking_end(void);
 enum policy { REPORT, REFUSE, REQUIRE };
 struct settings {
     enum policy policy;
-    const char *program, *conditions, *cache, *log; /* NULL: none */
+    const char *program, *conditions, *cache, *log, *draft; /* NULL: none */
     double seconds;
     uint32_t held; /* KV_HELD, or 0 */
+    bool reads;
 };
 extern struct settings settings;
 void policy_begin(void);
 /* Has the table printed when the program ends. */
 void policy_table_at_end(void);
 /* Whether a launch may go on. */
-bool policy_allows(cl_command_queue queue, cl_kernel kernel, cl_uint dimensions, const size_t *offset, const size_t *global,
-                   const size_t *local);
+bool policy_allows(const struct call *call);
 /* Tells one line, on the standard error. */
 void policy_tell(const char *format, ...) __attribute__((format(printf, 1, 2)));
 double seconds_now(void);

@@ -11,11 +11,37 @@ static const char *const harmless[] = {"-cl-mad-enable", "-cl-no-signed-zeros", 
                                        "-cl-opt-disable", "-cl-kernel-arg-info", "-cl-fp32-correctly-rounded-divide-sqrt",
                                        "-w", "-Werror", "-g"};
 
-static bool is_of(const char *word, size_t n, const char *const *words, size_t words_n) {
+static bool is_harmless(const char *word, size_t n) {
+    size_t at = 0, words_n = sizeof harmless / sizeof *harmless;
+    while (at < words_n && (strlen(harmless[at]) != n || memcmp(harmless[at], word, n))) at++;
+    return at < words_n;
+}
+
+/* Functions of the standard (OpenCL 1.2, 6.12), with a blank on both sides. Compilers may define such a name anew behind what an option
+ * says of it. */
+static const char functions[] =
+    " abs abs_diff acos acosh acospi add_sat all any asin asinh asinpi async_ atan atan2 atan2pi atanh atanpi atom_ atomic_ barrier "
+    "bitselect cbrt ceil clamp clz copysign cos cosh cospi cross degrees distance dot erf erfc exp exp10 exp2 expm1 fabs fast_distance "
+    "fast_length fast_normalize fdim floor fma fmax fmin fmod fract frexp get_global_id get_global_offset get_global_size get_group_id "
+    "get_image_ get_local_id get_local_size get_num_groups get_work_dim hadd hypot ilogb isequal isfinite isgreater isgreaterequal "
+    "isinf isless islessequal islessgreater isnan isnormal isnotequal isordered isunordered ldexp length lgamma lgamma_r log log10 "
+    "log1p log2 logb mad mad24 mad_hi mad_sat max maxmag mem_fence min minmag mix modf mul24 mul_hi nan nextafter normalize popcount "
+    "pow pown powr prefetch printf radians read_image read_mem_fence remainder remquo rhadd rint rootn rotate round rsqrt select "
+    "shuffle shuffle2 sign signbit sin sincos sinh sinpi smoothstep sqrt step sub_sat tan tanh tanpi tgamma trunc upsample vec_step "
+    "wait_group_events write_image write_mem_fence ";
+/* Beginnings of names. */
+static const char *const beginnings[] = {"convert_", "as_",   "vload",      "vstore",      "native_",   "half_",
+                                         "atomic_",  "atom_", "read_image", "write_image", "get_image", "async_work_group"};
+
+static bool is_of_standard(const char *name, size_t n) {
+    char word[64] = " ";
     size_t at;
-    for (at = 0; at < words_n; at++)
-        if (strlen(words[at]) == n && !memcmp(words[at], word, n)) return true;
-    return false;
+    for (at = 0; at < sizeof beginnings / sizeof *beginnings; at++)
+        if (n >= strlen(beginnings[at]) && !memcmp(name, beginnings[at], strlen(beginnings[at]))) return true;
+    if (n > sizeof word - 3) return false;
+    memcpy(word + 1, name, n);
+    word[n + 1] = ' ';
+    return strstr(functions, word) != NULL;
 }
 
 static bool is_letter(char c) {
@@ -37,13 +63,10 @@ static void define(const char *word, size_t n, struct text *defines, struct text
     const char *equals = memchr(word, '=', n);
     size_t left = equals ? (size_t)(equals - word) : n;
     size_t name_n = n && is_letter(*word) ? name_length(word) : 0;
-    if (!name_n || name_n > left || name_is_of_standard(word, name_n))
+    if (!name_n || name_n > left || is_of_standard(word, name_n))
         text_add(why, "the option -D %.*s", (int)(n < 60 ? n : 60), word);
-    text_add_bytes(defines, "define ", 7);
-    text_add_bytes(defines, word, left);
-    if (equals) text_add_bytes(defines, " ", 1);
-    if (equals) text_add_bytes(defines, equals + 1, n - left - 1);
-    text_add_bytes(defines, "\n", 1);
+    text_add(defines, "define %.*s%s%.*s\n", (int)left, word, equals ? " " : "", equals ? (int)(n - left - 1) : 0,
+             equals ? equals + 1 : "");
 }
 
 static const char *next_word(const char *at, size_t *n) {
@@ -65,7 +88,7 @@ static void words_read(const char *options, struct text *defines, struct text *w
             if (is_define) define(at, n, defines, why);
         } else if (n == 13 && !memcmp(at, "-cl-std=CL1.", 12) && at[12] >= '0' && at[12] <= '2') {
             *language = 10 + (unsigned)(at[12] - '0');
-        } else if (!is_of(at, n, harmless, sizeof harmless / sizeof *harmless)) {
+        } else if (!is_harmless(at, n)) {
             text_add(why, "the option %.*s", (int)(n < 60 ? n : 60), at);
         }
         if (why->n) return;
@@ -89,7 +112,7 @@ static void name_read(const char *name, size_t n, bool is_asked, unsigned langua
     snprintf(line, sizeof line, "define %.*s\n", (int)n, name);
     if (!strcmp(line, "define __OPENCL_VERSION__\n") || (!strcmp(line, "define __OPENCL_C_VERSION__\n") && language != 12))
         text_add(why, "the text asks for %.*s", (int)n, name);
-    if (is_asked && name_is_of_standard(name, n)) text_add(why, "a condition asks for %.*s", (int)n, name);
+    if (is_asked && is_of_standard(name, n)) text_add(why, "a condition asks for %.*s", (int)n, name);
     if (n < 4 || memcmp(name, "cl_", 3) || (defines->bytes && strstr(defines->bytes, line))) return;
     line[7 + n] = 0;
     if (has_extension(extensions, line + 7, n)) text_add(defines, "%s\n", line);

@@ -1,8 +1,11 @@
 /* parameters.c: names and types of a kernel's parameters.
  *
  * OpenCL tells them of a program that was built with -cl-kernel-arg-info. The program's own build stays as it is: this one is the layer's.
- * Nothing rests on what is told here, since who checks conditions reads the kernel's text. Only the thread that asks comes here. */
+ * Nothing rests on what is told here but how the words of a buffer are read (contents.c), since who checks conditions reads the kernel's
+ * text. One thread at a time comes here. */
 #include "layer.h"
+
+static pthread_mutex_t turn = PTHREAD_MUTEX_INITIALIZER;
 
 /* The last build: kernels of one program come one behind the other. */
 static struct {
@@ -12,7 +15,7 @@ static struct {
     cl_program program;
 } last;
 
-void parameters_forget(void) {
+static void forget(void) {
     if (last.program) below.clReleaseProgram(last.program);
     memset(&last, 0, sizeof last);
 }
@@ -22,16 +25,15 @@ static bool build(const struct subject *subject, cl_context context, cl_device_i
     struct text options = {0};
     cl_int error = CL_OUT_OF_HOST_MEMORY;
     if (last.program && last.source == subject->source && last.context == context && !strcmp(last.defines, subject->defines)) return true;
-    parameters_forget();
-    text_add_bytes(&options, subject->options, strlen(subject->options));
-    text_add(&options, " -cl-kernel-arg-info");
+    forget();
+    text_add(&options, "%s -cl-kernel-arg-info", subject->options);
     if (!options.is_short) last.program = below.clCreateProgramWithSource(context, 1, &bytes, &subject->source->n, &error);
     if (!error) error = below.clBuildProgram(last.program, 1, &device, options.bytes, NULL, NULL);
     text_free(&options);
     last.source = subject->source;
     last.defines = subject->defines;
     last.context = context;
-    if (error) parameters_forget();
+    if (error) forget();
     return !error;
 }
 
@@ -78,7 +80,13 @@ static bool ask(cl_kernel kernel, cl_uint at, struct parameter *parameter) {
     return true;
 }
 
-bool parameters_learn(struct subject *subject, cl_context context, cl_device_id device) {
+void parameters_forget(void) {
+    pthread_mutex_lock(&turn);
+    forget();
+    pthread_mutex_unlock(&turn);
+}
+
+static bool learn(struct subject *subject, cl_context context, cl_device_id device) {
     static struct parameter learned[ARGUMENTS_MOST];
     cl_kernel kernel;
     cl_uint n = 0, at;
@@ -92,10 +100,14 @@ bool parameters_learn(struct subject *subject, cl_context context, cl_device_id 
         if (!ask(kernel, at, &learned[at])) error = CL_KERNEL_ARG_INFO_NOT_AVAILABLE;
     below.clReleaseKernel(kernel);
     if (error || n > ARGUMENTS_MOST) return false;
-    pthread_mutex_lock(&lock);
-    memcpy(subject->parameters, learned, n * sizeof *learned);
-    subject->parameters_n = n;
-    subject->has_parameters = true;
-    pthread_mutex_unlock(&lock);
+    LOCKED(memcpy(subject->parameters, learned, n * sizeof *learned); subject->parameters_n = n; subject->has_parameters = true);
     return true;
+}
+
+bool parameters_learn(struct subject *subject, cl_context context, cl_device_id device) {
+    bool is_learned;
+    pthread_mutex_lock(&turn);
+    is_learned = learn(subject, context, device);
+    pthread_mutex_unlock(&turn);
+    return is_learned;
 }

@@ -2,7 +2,6 @@
 #include "layer.h"
 #include <stdarg.h>
 #include <sys/stat.h>
-#include <time.h>
 #include <unistd.h>
 
 struct settings settings;
@@ -37,6 +36,7 @@ static const char *word_of(const char *name) {
 
 void policy_begin(void) {
     const char *policy = word_of("KVERIFY_POLICY"), *seconds = word_of("KVERIFY_SECONDS"), *held = word_of("KVERIFY_HELD");
+    const char *reads = word_of("KVERIFY_READ");
     process = getpid();
     settings.policy = REPORT;
     if (policy && !strcmp(policy, "refuse")) settings.policy = REFUSE;
@@ -49,10 +49,13 @@ void policy_begin(void) {
     settings.conditions = word_of("KVERIFY_CONDITIONS");
     settings.cache = word_of("KVERIFY_CACHE");
     settings.log = word_of("KVERIFY_LOG");
+    settings.draft = word_of("KVERIFY_DRAFT");
+    if (settings.draft) mkdir(settings.draft, 0777);
     if (settings.cache) mkdir(settings.cache, 0777);
     if (settings.log) mkdir(settings.log, 0777);
     settings.seconds = seconds && atof(seconds) > 0 && atof(seconds) < 1e6 ? atof(seconds) : 10;
     settings.held = held && !strcmp(held, "1") ? KV_HELD : 0;
+    settings.reads = reads && !strcmp(reads, "1");
 }
 
 /* ---- the table ---- */
@@ -108,36 +111,33 @@ static bool goes_on(const struct answer *answer) {
     return settings.policy == REFUSE && answer->verdict == NOT_READ;
 }
 
-static void answer_of(cl_command_queue queue, const struct kernel *kernel, cl_uint dimensions, const size_t *offset, const size_t *global,
-                      const size_t *local, struct answer *answer) {
+static void answer_of(const struct kernel *kernel, const struct call *call, struct answer *answer) {
     struct launch launch;
     struct subject *subject = kernel->subject;
+    cl_context context = kernel->context;
     if (subject->why[0]) {
-        answer->verdict = strcmp(subject->why, WANT_OF_MEMORY) ? NOT_READ : NOT_SHOWN;
-        snprintf(answer->words, sizeof answer->words, "%s", subject->why);
-    } else if (launch_make(&launch, kernel, dimensions, offset, global, local, answer)) {
-        asking_of(subject, kernel->context, &launch, queue, settings.policy != REPORT, answer);
+        answer_is(answer, strcmp(subject->why, WANT_OF_MEMORY) ? NOT_READ : NOT_SHOWN, "%s", subject->why);
+    } else if (launch_make(&launch, kernel, call, answer)) {
+        if (settings.reads && !subject_allows(subject, &launch, false, answer)) contents_read(subject, &launch, kernel, call);
+        asking_of(subject, context, &launch, call->queue, settings.policy != REPORT, answer);
     }
     if (answer->verdict != PENDING) subject_count(subject, answer, 1);
 }
 
-bool policy_allows(cl_command_queue queue, cl_kernel handle, cl_uint dimensions, const size_t *offset, const size_t *global,
-                   const size_t *local) {
+bool policy_allows(const struct call *call) {
     struct answer answer = {NOT_SHOWN, ""};
-    struct kernel *kernel;
+    const struct kernel *kernel;
     double began = seconds_now();
-    bool is_allowed;
+    bool is_allowed = true;
     pthread_mutex_lock(&lock);
-    kernel = (struct kernel *)object_find(handle, OBJECT_KERNEL);
-    if (kernel && launch_is_faulty(kernel, dimensions, global, local)) {
-        pthread_mutex_unlock(&lock);
-        return true;
+    kernel = (const struct kernel *)object_find(call->kernel, OBJECT_KERNEL);
+    if (!kernel || !launch_is_faulty(kernel, call)) {
+        if (kernel) answer_of(kernel, call, &answer);
+        else subject_count(&strangers, &answer, 1);
+        is_allowed = goes_on(&answer);
+        refused_n += !is_allowed;
+        launch_seconds += seconds_now() - began;
     }
-    if (kernel) answer_of(queue, kernel, dimensions, offset, global, local, &answer);
-    else subject_count(&strangers, &answer, 1);
-    is_allowed = goes_on(&answer);
-    refused_n += !is_allowed;
-    launch_seconds += seconds_now() - began;
     pthread_mutex_unlock(&lock);
     return is_allowed;
 }

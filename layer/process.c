@@ -101,19 +101,13 @@ static void start_and_wait(struct start *start) {
 
 enum ending process_run(const char *command, const struct source *source, const struct text *conditions, struct text *output,
                         struct text *certificate, double deadline) {
-    struct start start = {{(char *)settings.program, (char *)command, NULL}, {-1, -1, -1, -1, -1}, deadline, NOT_STARTED};
-    char paths[CERTIFICATE + 1][40];
-    int at, n = 2;
+    char paths[CERTIFICATE + 1][40], *out = certificate ? (char *)"--out" : NULL;
+    struct start start = {{(char *)settings.program, (char *)command, paths[KERNEL], paths[CONDITIONS], (char *)"--wide",
+                           (char *)"--opencl", (char *)"--devices", (char *)"any", out, paths[CERTIFICATE], NULL},
+                          {-1, -1, -1, -1, -1}, deadline, NOT_STARTED};
+    int at;
     if (open_files(&start, source, conditions)) {
         for (at = KERNEL; at <= CERTIFICATE; at++) snprintf(paths[at], sizeof paths[at], "/proc/self/fd/%d", start.files[at]);
-        start.words[n++] = paths[KERNEL];
-        start.words[n++] = paths[CONDITIONS];
-        if (certificate) start.words[n++] = "--out";
-        if (certificate) start.words[n++] = paths[CERTIFICATE];
-        start.words[n++] = "--wide";
-        start.words[n++] = "--opencl";
-        start.words[n++] = "--devices";
-        start.words[n++] = "any";
         start_and_wait(&start);
         if (!text_read_file(output, start.files[OUTPUT])) output->is_short = true;
         if (certificate && !text_read_file(certificate, start.files[CERTIFICATE])) certificate->is_short = true;

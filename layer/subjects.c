@@ -60,6 +60,7 @@ struct subject *subject_of(struct source *source, const char *name, const char *
     place = put((char *)(subject + 1), name, &subject->name);
     put(put(put(place, defines, &subject->defines), options, &subject->options), why, &subject->why);
     subject->source = source;
+    kept_conditions(subject);
     subject->next = subjects;
     subjects_n++;
     return subjects = subject;
@@ -84,15 +85,16 @@ void subject_count(struct subject *subject, const struct answer *answer, uint64_
     outcome->launches += launches;
 }
 
+bool subject_is_given(const struct subject *subject) {
+    return subject->given.n || subject->given.is_short;
+}
+
 /* A kernel may store to a buffer whose parameter is not `const`; one that kernels only read is not for that. */
 static bool keeps_read_only(const struct subject *subject, const struct launch *launch, struct answer *answer) {
     uint32_t at;
-    if (!launch->read_only) return true;
     for (at = 0; at < launch->arguments_n; at++) {
         if (!(launch->read_only >> at & 1) || (at < subject->parameters_n && subject->parameters[at].is_const)) continue;
-        answer->verdict = NOT_SHOWN;
-        snprintf(answer->words, sizeof answer->words, "the buffer of argument %u is read-only, and its parameter is not const", at);
-        return false;
+        return answer_is(answer, NOT_SHOWN, "the buffer of argument %u is read-only, and its parameter is not const", at);
     }
     return true;
 }
@@ -113,21 +115,60 @@ static void remember(struct subject *subject, const struct launch *launch) {
     if (subject->seen_n < SEEN_MOST) subject->seen_n++;
 }
 
-bool subject_allows(struct subject *subject, const struct launch *launch, struct answer *answer) {
-    struct shown **link, *shown;
-    kv_answer told;
-    if (launch->read_only && !subject->has_parameters) return false;
-    if (!keeps_read_only(subject, launch, answer)) return true;
+/* ---- drafts (KVERIFY_DRAFT) ---- */
+
+static bool has_draft(const struct subject *subject) {
+    return settings.draft && !subject->has_no_draft && !subject_is_given(subject);
+}
+
+void subject_draft(struct subject *subject, struct shown *shown) {
+    subject->drafted = shown;
+    if (!kept_draft(subject)) policy_tell("%s: its draft could not be written", subject->name);
+}
+
+/* Has the draft cover a launch that its certificate allows. The first certificate is that of the draft. */
+static void draft(struct subject *subject, struct shown *shown, const struct launch *launch) {
+    const struct subject *other = subjects;
+    if (!has_draft(subject) || (subject->drafted && subject->drafted != shown)) return;
+    while (other && (other == subject || !other->drafted || strcmp(other->name, subject->name))) other = other->next;
+    if (!other && !subject->draft) subject->draft = calloc(1, sizeof *subject->draft);
+    subject->has_no_draft = other || !subject->draft || !hull_join(subject, subject->draft, launch);
+    if (subject->has_no_draft)
+        policy_tell("%s: no draft: %s", subject->name, other ? "another kernel of this name has one" : WANT_OF_MEMORY);
+    else if (!subject->drafted) subject_draft(subject, shown);
+}
+
+static bool accepted(struct answer *answer) {
     answer->verdict = ACCEPTED;
     answer->words[0] = 0;
-    if (was_seen(subject, launch)) return true;
+    return true;
+}
+
+bool subject_admits(struct subject *subject, struct shown *shown, const struct launch *launch, struct answer *answer) {
+    /* (who answers for what buffers hold means the lines of a file) */
+    uint32_t held = subject_is_given(subject) ? settings.held : 0, number;
+    kv_answer told;
+    if (shown->has_values && !held && !launch->has_contents) return false;
+    number = kv_allows(shown->handle, held, &launch->range, launch->arguments, launch->arguments_n, &told);
+    if (number && (number != KV_UNSAID || !contents_hold(subject, shown->conditions, launch, answer))) return false;
+    remember(subject, launch);
+    draft(subject, shown, launch);
+    return accepted(answer);
+}
+
+bool subject_allows(struct subject *subject, const struct launch *launch, bool by_any, struct answer *answer) {
+    struct shown **link, *shown;
+    bool is_drafted = has_draft(subject);
+    if ((launch->read_only && !subject->has_parameters) || (is_drafted && !subject->is_settled)) return false;
+    if (!keeps_read_only(subject, launch, answer)) return true;
+    if (was_seen(subject, launch)) return accepted(answer);
     for (link = &subject->shown; (shown = *link) != NULL; link = &shown->next) {
-        if (kv_allows(shown->handle, settings.held, &launch->range, launch->arguments, launch->arguments_n, &told)) continue;
+        if (is_drafted && subject->drafted && subject->drafted != shown && !by_any) continue;
+        if (!subject_admits(subject, shown, launch, answer)) continue;
         /* (what was used last comes first) */
         *link = shown->next;
         shown->next = subject->shown;
         subject->shown = shown;
-        remember(subject, launch);
         return true;
     }
     return false;

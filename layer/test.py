@@ -8,6 +8,7 @@ LIBRARY is libkverify.a, PROGRAM the program `kverify`. What is missing on the m
 what is compiled stays there for another call. The last line is `N passed, N failed`, and the status 1 where one failed.
 """
 import argparse
+import concurrent.futures
 import os
 import re
 import shutil
@@ -55,9 +56,42 @@ CASES = {
     "svm": (0, "not read: argument 0 is of a kind that is not read"),
     "built_again": (0, "not read: a build of it failed"),
 }
+# The same with KVERIFY_READ=1, and what each comes to without it.
+POSSIBLE = "refused 60: fault F"
+READ = {
+    "gather": (0, "gather: accepted", POSSIBLE),
+    "gather_waiting": (0, "gather: accepted", POSSIBLE),
+    "look_up": (0, "look_up: accepted", POSSIBLE),
+    "gather_past": (-59, POSSIBLE, POSSIBLE),
+    "gather_negative": (-59, POSSIBLE, POSSIBLE),
+    "gather_changed": (-59, POSSIBLE, None),
+    "gather_waiting_past": (-59, POSSIBLE, POSSIBLE),
+    "gather_hidden": (-59, POSSIBLE, POSSIBLE),
+    "gather_large": (-59, "a buffer of over 64 MiB is not read", POSSIBLE),
+    "gather_late": (-59, "its queue took too long", None),
+    "look_up_past": (-59, POSSIBLE, POSSIBLE),
+    "look_up_negative": (-59, POSSIBLE, POSSIBLE),
+}
+# Those of them that are safe to run, whatever is said of them.
+SAFE = ["gather_waiting", "look_up", "gather_hidden", "gather_large"]
+# What a draft is made of, and what it allows afterwards: also launches that were not seen.
+DRAFTED = ["fill", "fill_twice", "axpy_64", "axpy", "axpy_in_more", "turn", "gather_more", "gather"]
 TABLE = r"(\d+) launches: (\d+) accepted, (\d+) not shown, (\d+) not read; 0 refused; (\d+) ms to ask, ([0-9.]+) ms"
 # Each of these would leave a buffer, or is undefined for OpenCL itself; so it never runs.
 NEVER_RUN = ("past", "defined_past", "let_go")
+GATHER = """conditions 3
+kernel gather
+local_size 64 1 1
+groups 1..64 1..1 1..1
+arg n 1..4096
+length y >= n
+length x >= n
+length idx >= n
+require 64*groups.0 >= n
+values idx <= n + -1
+values idx >= 0
+budget 100
+"""
 CONTENTS = """conditions 3
 kernel sum
 local_size 64 1 1
@@ -69,6 +103,18 @@ require n >= 1
 values idx >= 0
 values idx <= n + -1
 budget 100
+"""
+# A program that remembers what `kverify` answered of the same texts, for tests that ask the same again and again.
+REMEMBERS = """#!/bin/sh
+key={folder}/$1-$(cat "$2" "$3" | sha256sum | cut -c 1-32)
+if ! [ -f "$key" ]; then
+    if [ -n "$9" ]; then {program} "$1" "$2" "$3" "$4" "$5" "$6" "$7" --out "$key.$$.certificate" > "$key.$$"
+    else {program} "$@" > "$key.$$"; fi
+    ! [ -f "$key.$$.certificate" ] || mv "$key.$$.certificate" "$key.certificate"
+    mv "$key.$$" "$key"
+fi
+[ -z "$9" ] || ! [ -f "$key.certificate" ] || cat "$key.certificate" > "$9"
+cat "$key"
 """
 WRAPPED = "-Wl," + ",".join(f"--wrap={it}" for it in ("malloc", "calloc", "realloc", "strdup"))
 OWN = "-DOWN " + " ".join(f"-D{it}=own_{it}" for it in ("malloc", "calloc", "realloc", "strdup"))
@@ -137,6 +183,54 @@ class Tests:
                 self.expect(f"{policy}: {name}", f"{name}: {wanted}\n" in out and words in told, f"{out}{told}")
         self.threads(launches)
         self.folders(launches)
+        self.contents(launches)
+        self.drafts(launches)
+
+    def given_gather(self, name):
+        os.mkdir(f"{self.folder}/{name}")
+        with open(f"{self.folder}/{name}/gather.conditions", "w", encoding="utf-8") as file:
+            file.write(GATHER)
+        return f"{self.folder}/{name}"
+
+    def contents(self, launches):
+        """What buffers hold is read where that is wanted, and only what they hold counts."""
+        given = self.given_gather("given_gather")
+        # (whoever answers for `values` lines answers for those of a file)
+        for name, (error, words, without) in READ.items():
+            more = {"KVERIFY_POLICY": "refuse", "KVERIFY_SECONDS": "2" if name == "gather_late" else "60"}
+            _, out, told, _ = self.run([launches, name], self.layer, KVERIFY_READ="1", KVERIFY_HELD="1", **more)
+            self.expect(f"{name}, with what buffers hold", out == f"{name}: {error}\n" and words in told, out + told)
+            if without:
+                _, out, told, _ = self.run([launches, name], self.layer, **more)
+                self.expect(f"{name}, without", out == f"{name}: -59\n" and without in told, out + told)
+            if name.startswith("gather"):
+                _, out, told, _ = self.run([launches, name], self.layer, KVERIFY_READ="1", KVERIFY_CONDITIONS=given, **more)
+                self.expect(f"{name}, by conditions of a file", out == f"{name}: {error}\n", out + told)
+        cache = {"KVERIFY_POLICY": "refuse", "KVERIFY_CACHE": f"{self.folder}/cache_gather", "KVERIFY_SECONDS": "60"}
+        self.run([launches, "gather"], self.layer, KVERIFY_READ="1", **cache)
+        for read, held, error in (("1", "0", 0), ("0", "1", -59)):
+            more = {**cache, "KVERIFY_READ": read, "KVERIFY_HELD": held, "KVERIFY_PROGRAM": "/bin/false"}
+            _, out, told, _ = self.run_with(more, [launches, "gather"])
+            self.expect(f"a cache with `values` lines, read {read}, held {held}", out == f"gather: {error}\n", out + told)
+        status, out, told, _ = self.run([launches, "gather", "gather", "fill"], self.layer, KVERIFY_READ="1", KVERIFY_SECONDS="60")
+        self.expect("what buffers hold, under report", status == 0 and "3 launches: 3 accepted" in told, told)
+
+    def drafts(self, launches):
+        """A draft is accepted by prove, and allows all launches that were seen."""
+        folder, more = f"{self.folder}/drafts", {"KVERIFY_POLICY": "refuse", "KVERIFY_READ": "1", "KVERIFY_SECONDS": "60"}
+        _, out, told, _ = self.run([launches, *DRAFTED, "race", "gather_past"], self.layer, KVERIFY_DRAFT=folder, **more)
+        made = sorted(os.listdir(folder))
+        self.expect("all is accepted while it is drafted", out.count(": 0\n") == len(DRAFTED), out + told)
+        self.expect("what is not shown has no draft", made == [f"{it}.conditions" for it in ("axpy", "fill", "gather", "turn")], str(made))
+        none = {"KVERIFY_CONDITIONS": folder, "KVERIFY_CACHE": f"{self.folder}/cache_drafts"}
+        for again in ("without", "with"):
+            _, out, told, _ = self.run([launches, *DRAFTED, "gather_past"], self.layer, **none, **more)
+            self.expect(f"a draft allows what was seen, {again} a cache", out.count(": 0\n") == len(DRAFTED) and "gather_past: -59" in out, out + told)
+        _, out, told, _ = self.run([launches, "fill_by_32"], self.layer, **none, **more)
+        self.expect("a draft is not for another size of a work-group", out == "fill_by_32: -59\n" and "refused 42" in told, out + told)
+        _, out, told, _ = self.run([launches, "fill", "fill_by_32", "fill"], self.layer, KVERIFY_DRAFT=f"{self.folder}/two", **more)
+        is_told = "fill: its draft does not cover all launches" in told
+        self.expect("what a draft cannot cover is told", "3 launches: 3 accepted" in told and is_told, out + told)
 
     def threads(self, launches):
         for policy, more in (("report", {}), ("refuse", {"LAUNCHES_REFUSED": "1"})):
@@ -177,21 +271,32 @@ class Tests:
 
     # ---- what the layer itself does wrong ----
 
+    def remembering(self):
+        place = f"{self.folder}/remembers"
+        with open(place, "w", encoding="utf-8") as file:
+            file.write(REMEMBERS.format(folder=self.folder, program=self.program))
+        os.chmod(place, 0o755)
+        return place
+
     def sanitizers(self):
         silent = f"{self.folder}/silent"
         with open(silent, "w", encoding="utf-8") as file:
-            file.write("leak:libpocl\nleak:libLLVM\nleak:libclang\ncalled_from_lib:libpocl\n")
+            file.write("leak:libpocl\nleak:libLLVM\nleak:libclang\n")
         cases = [it for it in CASES if it not in NEVER_RUN]
         for name, flags in (("address", "address,undefined"), ("thread", "thread")):
             layer = self.build(name, f"-O1 -g -fsanitize={flags} -fno-omit-frame-pointer")
             launches = self.compile("launches.c", f"launches_{name}", f"-fsanitize={flags}")
-            more = {"LSAN_OPTIONS": f"suppressions={silent}", "KVERIFY_LOG": f"{self.folder}/log_{name}"}
+            more = {"LSAN_OPTIONS": f"suppressions={silent}", "KVERIFY_PROGRAM": self.remembering(), "KVERIFY_SECONDS": "600"}
             more["KVERIFY_CACHE"] = f"{self.folder}/cache_{name}"
+            log = {"KVERIFY_LOG": f"{self.folder}/log_{name}"}
+            draft = {"KVERIFY_READ": "1", "KVERIFY_DRAFT": f"{self.folder}/draft_{name}", "LAUNCHES_GATHER": "1"}
             for policy in ("report", "refuse"):
-                for words in (["threads", "8"], cases) if name == "address" else (["threads", "8"],):
-                    status, _, told, _ = self.run([launches, *words], layer, KVERIFY_POLICY=policy, **more)
+                runs = [(["threads", "8"], {}), (["threads", "4"], draft), (cases, log), ([*DRAFTED, *SAFE], draft)]
+                for words, how in runs if name == "address" else runs[:2]:
+                    now = {"OPENCL_LAYERS": layer, "KVERIFY_POLICY": policy, **more, **how}
+                    status, _, told, _ = self.run_with(now, [launches, *words])
                     is_clean = not re.search("ERROR|WARNING: Thread|runtime error", told)
-                    self.expect(f"{name} sanitizer, {policy}, {words[0]}", status == 0 and is_clean, told[-3000:])
+                    self.expect(f"{name} sanitizer, {policy}, {words[0]} {words[1]}", status == 0 and is_clean, told[-3000:])
 
     def allocations(self):
         """Each allocation of the layer fails in turn, and each 61st of its library's."""
@@ -199,19 +304,35 @@ class Tests:
         flags = "-O1 -g -fsanitize=address"
         own = self.build("failing_own", f"{flags} {OWN}", "tests/failing.c")
         whole = self.build("failing", flags, "tests/failing.c", WRAPPED)
-        more = {"ASAN_OPTIONS": "detect_leaks=0", "KVERIFY_POLICY": "refuse"}
-        for layer, step in ((own, 1), (whole, 61)):
-            found = re.search(r"allocations: (\d+)", self.run([launches, "fill", "race", "twice"], layer, **more)[2])
+        more = {"ASAN_OPTIONS": "detect_leaks=0", "KVERIFY_POLICY": "refuse", "KVERIFY_READ": "1", "KVERIFY_SECONDS": "600"}
+        more["KVERIFY_PROGRAM"] = self.remembering()
+        given = {"KVERIFY_CONDITIONS": self.given_gather("given_failing")}
+        draft = {"KVERIFY_DRAFT": f"{self.folder}/draft_failing"}
+        workers = concurrent.futures.ThreadPoolExecutor(4)
+        safe, unsafe = ["fill", "fill_twice", "gather"], ["race", "twice", "gather_past"]
+        for layer, step, words, how in (
+            (own, 1, ["fill", "race", "twice", "fill_twice"], draft),
+            (own, 1, ["gather"], draft),
+            (own, 1, ["gather", "gather_past"], given),
+            (whole, 61, ["fill", "race", "twice"], draft),
+            (whole, 61, ["gather", "gather_past"], given),
+        ):
+            now = {**more, **how}
+            found = re.search(r"allocations: (\d+)", self.run_with({**now, "OPENCL_LAYERS": layer}, [launches, *words])[2])
             n = int(found.group(1)) if found else 0
             self.expect("allocations are counted", n > 0)
+            pattern = "".join(f"{it}: {'-59' if it in unsafe else '(0|-59)'}\n" for it in words)
             wrong = refused = 0
-            for at in range(1, n + 1, step):
-                status, out, _, _ = self.run([launches, "fill", "race", "twice"], layer, KVERIFY_TEST_FAIL=str(at), **more)
-                is_right = status == 0 and re.fullmatch("fill: (0|-59)\nrace: -59\ntwice: -59\n", out)
+            fails = [{**now, "OPENCL_LAYERS": layer, "KVERIFY_TEST_FAIL": str(at)} for at in range(1, n + 1, step)]
+            for fail, (status, out, told, _) in zip(fails, workers.map(lambda it: self.run_with(it, [launches, *words]), fails)):
+                is_right = status == 0 and re.fullmatch(pattern, out)
                 wrong += not is_right
-                refused += "fill: -59" in out
-            self.expect(f"{n} allocations, each {step}. fails in turn: {wrong} wrong", not wrong)
-            print(f"{n} allocations, each {step}. fails in turn: {wrong} runs went wrong, {refused} launches were refused for it")
+                refused += any(f"{it}: -59" in out.splitlines() for it in safe)
+                if not is_right:
+                    print(f"allocation {fail['KVERIFY_TEST_FAIL']}: status {status}\n{out}{told[-2000:]}", flush=True)
+            what = f"{words[0]}: {n} allocations, each {step}. fails in turn: {wrong} runs went wrong, {refused} refused a launch for it"
+            self.expect(what, not wrong)
+            print(what, flush=True)
 
     # ---- real programs ----
 

@@ -32,16 +32,15 @@ void text_add_bytes(struct text *text, const char *bytes, size_t n) {
 }
 
 void text_add(struct text *text, const char *format, ...) {
-    char line[512];
-    va_list words;
+    va_list words, again;
     int n;
     va_start(words, format);
-    n = vsnprintf(line, sizeof line, format, words);
+    va_copy(again, words);
+    n = vsnprintf(NULL, 0, format, words);
+    if (n < 0 || text->is_short || !text_has_room(text, (size_t)n)) text->is_short = true;
+    else text->n += (size_t)vsnprintf(text->bytes + text->n, (size_t)n + 1, format, again);
+    va_end(again);
     va_end(words);
-    if (n < 0 || (size_t)n >= sizeof line)
-        text->is_short = true;
-    else
-        text_add_bytes(text, line, (size_t)n);
 }
 
 void text_free(struct text *text) {

@@ -1,6 +1,6 @@
 /* A program of OpenCL, as one without the layer: each case makes a launch, and tells what came of it.
  *
- * usage: launches CASE.. | launches many N | launches threads N */
+ * usage: launches CASE.. | launches many N [INDEXES] | launches threads N */
 #define CL_TARGET_OPENCL_VERSION 300
 #define CL_USE_DEPRECATED_OPENCL_1_2_APIS
 #include <CL/cl.h>
@@ -37,6 +37,12 @@ static const char text[] =
     "__kernel __attribute__((reqd_work_group_size(64, 1, 1))) void sized(__global int *a) { a[get_global_id(0)] = 3; }\n"
     "__kernel void sum(__global int *a, __global const int *idx, int n) {\n"
     "  if (get_global_id(0) < n) a[get_global_id(0)] = idx[idx[get_global_id(0)]];\n"
+    "}\n"
+    "__kernel void gather(__global int *y, __global const int *x, __global const int *idx, int n) {\n"
+    "  if (get_global_id(0) < n) y[get_global_id(0)] = x[idx[get_global_id(0)]];\n"
+    "}\n"
+    "__kernel void look_up(__global int *y, __global const int *x, __global const short *idx) {\n"
+    "  y[get_global_id(0)] = x[idx[get_global_id(0)] + 5];\n"
     "}\n";
 
 static cl_context context;
@@ -113,21 +119,22 @@ static cl_int of_two(cl_mem to, cl_mem from) {
     return launch(kernel, 1024, SIZE);
 }
 
-static cl_int axpy(void) {
+/* Of n elements, in buffers that have room for more. */
+static cl_int axpy(cl_int n, size_t room) {
     float x[N], y[N], a = 2;
-    cl_int n = N, error, at;
+    cl_int error, at;
     cl_kernel kernel = made("-D UNUSED=1 -I .", "axpy");
-    cl_mem bx = memory(CL_MEM_READ_ONLY, sizeof x), by = memory(CL_MEM_READ_WRITE, sizeof y);
-    for (at = 0; at < N; at++) x[at] = (float)at, y[at] = 1;
-    need(clEnqueueWriteBuffer(queue, bx, CL_TRUE, 0, sizeof x, x, 0, NULL, NULL), "clEnqueueWriteBuffer");
-    need(clEnqueueWriteBuffer(queue, by, CL_TRUE, 0, sizeof y, y, 0, NULL, NULL), "clEnqueueWriteBuffer");
+    cl_mem bx = memory(CL_MEM_READ_ONLY, room * sizeof *x), by = memory(CL_MEM_READ_WRITE, room * sizeof *y);
+    for (at = 0; at < n; at++) x[at] = (float)at, y[at] = 1;
+    need(clEnqueueWriteBuffer(queue, bx, CL_TRUE, 0, n * sizeof *x, x, 0, NULL, NULL), "clEnqueueWriteBuffer");
+    need(clEnqueueWriteBuffer(queue, by, CL_TRUE, 0, n * sizeof *y, y, 0, NULL, NULL), "clEnqueueWriteBuffer");
     set(kernel, 0, sizeof by, &by);
     set(kernel, 1, sizeof bx, &bx);
     set(kernel, 2, sizeof a, &a);
     set(kernel, 3, sizeof n, &n);
-    error = launch(kernel, 1024, SIZE);
-    need(clEnqueueReadBuffer(queue, by, CL_TRUE, 0, sizeof y, y, 0, NULL, NULL), "clEnqueueReadBuffer");
-    for (at = 0; !error && at < N; at++)
+    error = launch(kernel, (n + 63) / 64 * 64, SIZE);
+    need(clEnqueueReadBuffer(queue, by, CL_TRUE, 0, n * sizeof *y, y, 0, NULL, NULL), "clEnqueueReadBuffer");
+    for (at = 0; !error && at < n; at++)
         if (y[at] != 2 * (float)at + 1) return -1000;
     return error;
 }
@@ -277,6 +284,114 @@ static cl_int of_contents(void) {
     return launch(kernel, 1024, SIZE);
 }
 
+/* ---- kernels that load an index ---- */
+
+struct gather {
+    cl_kernel kernel;
+    cl_mem y, x, idx;
+    cl_int n;
+};
+
+/* A kernel of N items, all indexes of which are in range, and the buffers of which have no more than they need. */
+static struct gather gather_of(cl_mem_flags flags, cl_int n) {
+    struct gather it = {made("", "gather"), memory(CL_MEM_READ_WRITE, 4 * n), memory(CL_MEM_READ_ONLY, 4 * n), memory(flags, 4 * n), n};
+    cl_int *words = malloc(4 * (size_t)n), at;
+    for (at = 0; at < n; at++) words[at] = at * 3;
+    need(clEnqueueWriteBuffer(queue, it.x, CL_TRUE, 0, 4 * n, words, 0, NULL, NULL), "clEnqueueWriteBuffer");
+    for (at = 0; at < n; at++) words[at] = n - 1 - at;
+    if (!(flags & CL_MEM_HOST_NO_ACCESS))
+        need(clEnqueueWriteBuffer(queue, it.idx, CL_TRUE, 0, 4 * n, words, 0, NULL, NULL), "clEnqueueWriteBuffer");
+    free(words);
+    set(it.kernel, 0, sizeof it.y, &it.y);
+    set(it.kernel, 1, sizeof it.x, &it.x);
+    set(it.kernel, 2, sizeof it.idx, &it.idx);
+    set(it.kernel, 3, sizeof it.n, &it.n);
+    return it;
+}
+
+static void put(const struct gather *it, size_t at, cl_int word) {
+    need(clEnqueueWriteBuffer(queue, it->idx, CL_TRUE, 4 * at, sizeof word, &word, 0, NULL, NULL), "clEnqueueWriteBuffer");
+}
+
+static cl_int gather(cl_int n) {
+    struct gather it = gather_of(CL_MEM_READ_ONLY, n);
+    cl_int error = launch(it.kernel, (n + 63) / 64 * 64, SIZE), word = 0;
+    need(clEnqueueReadBuffer(queue, it.y, CL_TRUE, 4, sizeof word, &word, 0, NULL, NULL), "clEnqueueReadBuffer");
+    return error || word == 3 * (n - 2) ? error : -1000;
+}
+
+/* One index is wrong: at once, or at the second launch. */
+static cl_int gather_wrong(size_t at, cl_int word, int first) {
+    struct gather it = gather_of(CL_MEM_READ_ONLY, N);
+    cl_int error = first ? launch(it.kernel, 1024, SIZE) : 0;
+    put(&it, at, word);
+    return error ? -1000 : launch(it.kernel, 1024, SIZE);
+}
+
+/* The index comes by a command that the launch waits for, in a queue without an order. */
+static cl_int gather_waiting(cl_int word) {
+    struct gather it = gather_of(CL_MEM_READ_ONLY, N);
+    cl_event written, user;
+    cl_int error, ended;
+    cl_command_queue loose = clCreateCommandQueue(context, device, CL_QUEUE_OUT_OF_ORDER_EXEC_MODE_ENABLE, &error);
+    size_t global = 1024, local = SIZE;
+    if (error) loose = queue;
+    user = clCreateUserEvent(context, &error);
+    need(error, "clCreateUserEvent");
+    put(&it, 1, 1 << 20);
+    need(clSetUserEventStatus(user, CL_COMPLETE), "clSetUserEventStatus");
+    need(clEnqueueWriteBuffer(loose, it.idx, CL_FALSE, 4, sizeof word, &word, 1, &user, &written), "clEnqueueWriteBuffer");
+    error = clEnqueueNDRangeKernel(loose, it.kernel, 1, NULL, &global, &local, 1, &written, NULL);
+    ended = clFinish(loose);
+    return error ? error : ended;
+}
+
+/* The launch waits for what the program does behind it. */
+static cl_int gather_late(void) {
+    struct gather it = gather_of(CL_MEM_READ_ONLY, N);
+    cl_int error;
+    cl_event user = clCreateUserEvent(context, &error);
+    size_t global = 1024, local = SIZE;
+    need(error, "clCreateUserEvent");
+    error = clEnqueueNDRangeKernel(queue, it.kernel, 1, NULL, &global, &local, 1, &user, NULL);
+    need(clSetUserEventStatus(user, CL_COMPLETE), "clSetUserEventStatus");
+    need(clFinish(queue), "clFinish");
+    return error;
+}
+
+/* Nobody may read this one. */
+static cl_int gather_hidden(void) {
+    struct gather it = gather_of(CL_MEM_READ_WRITE | CL_MEM_HOST_NO_ACCESS, N);
+    cl_int zero = 0;
+    need(clEnqueueFillBuffer(queue, it.idx, &zero, sizeof zero, 0, 4 * N, 0, NULL, NULL), "clEnqueueFillBuffer");
+    return launch(it.kernel, 1024, SIZE);
+}
+
+/* Over 64 MiB of indexes. */
+static cl_int gather_large(void) {
+    struct gather it = gather_of(CL_MEM_READ_ONLY, N);
+    cl_mem large = memory(CL_MEM_READ_ONLY, (64u << 20) + 4);
+    cl_int zero = 0;
+    need(clEnqueueFillBuffer(queue, large, &zero, sizeof zero, 0, (64u << 20) + 4, 0, NULL, NULL), "clEnqueueFillBuffer");
+    set(it.kernel, 2, sizeof large, &large);
+    return launch(it.kernel, 1024, SIZE);
+}
+
+/* Indexes of 16 bits in a part of a buffer, the rest of which is wrong. */
+static cl_int look_up(cl_short other) {
+    cl_kernel kernel = made("", "look_up");
+    cl_mem y = memory(CL_MEM_READ_WRITE, 4096), x = memory(CL_MEM_READ_ONLY, 64), whole = memory(CL_MEM_READ_WRITE, 16384), idx;
+    cl_short word = 10, wrong = 999;
+    need(clEnqueueFillBuffer(queue, whole, &wrong, sizeof wrong, 0, 16384, 0, NULL, NULL), "clEnqueueFillBuffer");
+    need(clEnqueueFillBuffer(queue, whole, &word, sizeof word, 8192, 2048, 0, NULL, NULL), "clEnqueueFillBuffer");
+    need(clEnqueueWriteBuffer(queue, whole, CL_TRUE, 8200, sizeof other, &other, 0, NULL, NULL), "clEnqueueWriteBuffer");
+    idx = part(whole, 8192, 2048);
+    set(kernel, 0, sizeof y, &y);
+    set(kernel, 1, sizeof x, &x);
+    set(kernel, 2, sizeof idx, &idx);
+    return launch(kernel, 1024, SIZE);
+}
+
 static cl_int twice(void) {
     cl_mem a = memory(CL_MEM_READ_WRITE, 4096);
     return of_two(a, a);
@@ -306,7 +421,24 @@ static cl_int seen_children(void) {
 }
 
 static cl_int case_of(const char *name) {
-    if (!strcmp(name, "axpy")) return axpy();
+    if (!strcmp(name, "axpy")) return axpy(N, N);
+    if (!strcmp(name, "axpy_64")) return axpy(64, 64);
+    if (!strcmp(name, "axpy_in_more")) return axpy(70, 4096);
+    if (!strcmp(name, "gather")) return gather(N);
+    if (!strcmp(name, "gather_more")) return gather(4 * N);
+    if (!strcmp(name, "gather_past")) return gather_wrong(500, N, 0);
+    if (!strcmp(name, "gather_negative")) return gather_wrong(N - 1, -1, 0);
+    if (!strcmp(name, "gather_changed")) return gather_wrong(0, 1 << 30, 1);
+    if (!strcmp(name, "gather_waiting")) return gather_waiting(5);
+    if (!strcmp(name, "gather_waiting_past")) return gather_waiting(N);
+    if (!strcmp(name, "gather_late")) return gather_late();
+    if (!strcmp(name, "gather_hidden")) return gather_hidden();
+    if (!strcmp(name, "gather_large")) return gather_large();
+    if (!strcmp(name, "look_up")) return look_up(0);
+    if (!strcmp(name, "look_up_past")) return look_up(11);
+    if (!strcmp(name, "look_up_negative")) return look_up(-6);
+    if (!strcmp(name, "fill_twice")) return of_one("", "fill", 8192, 2048, SIZE);
+    if (!strcmp(name, "fill_by_32")) return of_one("", "fill", 4096, 1024, 32);
     if (!strcmp(name, "turn")) return turn();
     if (!strcmp(name, "race")) return of_one("", "race", 4096, 1024, SIZE);
     if (!strcmp(name, "fill")) return of_one("", "fill", 4096, 1024, SIZE);
@@ -351,10 +483,10 @@ static int compare(const void *one, const void *other) {
     return (a > b) - (a < b);
 }
 
-static void many(int n) {
+static void many(int n, cl_int indexes) {
     enum { BATCHES = 20 };
-    cl_kernel kernel = made("", "fill");
-    cl_mem a = memory(CL_MEM_READ_WRITE, 4096);
+    cl_kernel kernel = indexes ? gather_of(CL_MEM_READ_ONLY, indexes).kernel : made("", "fill");
+    cl_mem a = memory(CL_MEM_READ_WRITE, indexes ? 4 * (size_t)indexes : 4096);
     double times[BATCHES];
     int batch, at;
     set(kernel, 0, sizeof a, &a);
@@ -386,6 +518,7 @@ static void *one_thread(void *given) {
         if (error && error != CL_INVALID_OPERATION) return given;
         if (error && at % 2) return given;
         if (getenv("LAUNCHES_REFUSED") && !error && !(at % 2)) return given;
+        if (getenv("LAUNCHES_GATHER") && gather(64 * (cl_int)(1 + number % 4))) return given;
     }
     return NULL;
 }
@@ -412,8 +545,8 @@ int main(int n, char **words) {
     need(error, "clCreateContext");
     queue = clCreateCommandQueue(context, device, 0, &error);
     need(error, "clCreateCommandQueue");
-    if (n == 3 && !strcmp(words[1], "many")) {
-        many(atoi(words[2]));
+    if (n >= 3 && !strcmp(words[1], "many")) {
+        many(atoi(words[2]), n > 3 ? atoi(words[3]) : 0);
     } else if (n == 3 && !strcmp(words[1], "threads")) {
         threads(atoi(words[2]));
     } else {

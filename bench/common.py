@@ -1,12 +1,55 @@
-"""What the scripts of compare/ and measure/ have in common: where the repository and its programs are, and texts of launches and certificates."""
+"""What the scripts of compare/ and measure/ have in common: where the repository and its programs are, how the program is asked, and texts of
+launches and certificates."""
+import itertools
 import os
+import random
 import re
+import subprocess
 
 ROOT = os.path.dirname(os.path.dirname(os.path.abspath(__file__)))
 # The program, or another build of it that KVERIFY names.
 KVERIFY = os.environ.get("KVERIFY", os.path.join(ROOT, "crates", "kverify", "out", "kverify"))
 # The program of the tests of texts, which also measures parts of kverify.
 CASES = os.path.join(ROOT, "crates", "cases", "out", "cases")
+
+
+def put(place, text):
+    """Writes a text, bytes or not, to a file."""
+    with open(place, "wb") as out:
+        out.write(text if isinstance(text, bytes) else text.encode())
+
+
+def put_all(folder, texts):
+    """Writes texts to files of a folder, by their names, and returns the places of these in order."""
+    places = [os.path.join(folder, name) for name in texts]
+    for place, text in zip(places, texts.values()):
+        put(place, text)
+    return places
+
+
+def first_line(*words, timeout=600):
+    """The first line of what the program prints for these words."""
+    done = subprocess.run([KVERIFY, *words], capture_output=True, text=True, timeout=timeout)
+    return (done.stdout + done.stderr).split("\n")[0]
+
+
+def dice_of(seed):
+    """Random numbers without end, by attempts: the number of each, and what it throws its dice with."""
+    return ((attempt, random.Random(f"{seed}:{attempt}")) for attempt in itertools.count())
+
+
+def print_counts(found):
+    """Prints what was counted, a line each."""
+    for what, number in found.items():
+        print(f"{number} {what}")
+
+
+def number_behind(words, option, default):
+    """The number behind an option, and the words without both; the default where the option is not there."""
+    if option not in words:
+        return default, words
+    at = words.index(option)
+    return int(words[at + 1]), words[:at] + words[at + 2 :]
 
 
 def has_exit(kernel):

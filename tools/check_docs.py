@@ -11,31 +11,21 @@ that are named: a change of these makes them stale.
 - docs/ARCHITECTURE.md: its lists of crates are what tools/crates.py writes.
 - crates/PROMISES.md is what tools/promises.py writes.
 - README.md: each `crates/NAME` that it names is there.
+- What tools/check_links.py looks at: links of documents, and the length of their lines.
+- What tools/check_cases.py looks at: numbers of cases, names that are taken, places of wrong bodies.
 """
 import os
 import re
 import sys
 
 sys.path.insert(0, os.path.dirname(os.path.abspath(__file__)))
+import check_cases  # noqa: E402
+import check_links  # noqa: E402
 import crates as crate_lists  # noqa: E402
 import promises  # noqa: E402
-from crates import head_of, listed, section_of, text_of  # noqa: E402
+from crates import below, head_of, kit_libraries, listed, section_of, text_of  # noqa: E402
 
 NAME = re.compile(r"`([a-z_]+)`")
-
-
-def below(libraries):
-    """Of each crate all crates that it stands on."""
-    found = {}
-    for name in libraries:
-        todo = list(libraries[name])
-        found[name] = set()
-        while todo:
-            it = todo.pop()
-            if it not in found[name]:
-                found[name].add(it)
-                todo += libraries[it]
-    return found
 
 
 def compare_stands(said, where, words, name, crates, under):
@@ -43,15 +33,10 @@ def compare_stands(said, where, words, name, crates, under):
     last = re.split(r"[Ss]tands on ", words)[1:]
     for it in NAME.findall(last[-1].split("; ")[0]) if last else []:
         if it not in crates and not os.path.isdir(f"crates/{it}"):
-            if not used_of_kit(name, it):
+            if it not in kit_libraries()[name]:
                 said(f"{where}: `{name}` stands on `{it}`, which is no crate")
         elif it not in under[name]:
             said(f"{where}: `{name}` stands on `{it}`; by crates.txt it does not")
-
-
-def used_of_kit(name, library):
-    """crates.txt names the library for the crate, as one of the kit's."""
-    return re.search(rf"^{name}:.*\b{library}\b", text_of("crates.txt"), re.M) is not None
 
 
 def tell_above(names, crates, under):
@@ -89,6 +74,8 @@ def main(words):
     found += crate_lists.faults(crates)
     if promises.differs():
         said(f"{promises.PAGE} is not what tools/promises.py writes")
+    found += check_links.faults()
+    found += check_cases.faults(libraries)
     for name in re.findall(r"crates/([a-z_]+)", text_of("README.md")):
         if name not in crates:
             said(f"README.md names crates/{name}, which is none")

@@ -49,6 +49,27 @@ def listed(said):
     return sections, {name: [it for it in libraries if it in sections] for name, libraries in names.items()}
 
 
+def kit_libraries():
+    """Of each crate of crates.txt the libraries that its line names and that are no crates of the repository: those of the kit."""
+    lines = [it.split(":") for it in text_of("crates.txt").splitlines() if ":" in it and not it.startswith("#")]
+    named = {name.split()[0]: libraries.split() for name, libraries in lines}
+    return {name: [it for it in libraries if it not in named] for name, libraries in named.items()}
+
+
+def below(libraries):
+    """Of each crate all crates that it stands on."""
+    found = {}
+    for name in libraries:
+        todo = list(libraries[name])
+        found[name] = set()
+        while todo:
+            it = todo.pop()
+            if it not in found[name]:
+                found[name].add(it)
+                todo += libraries[it]
+    return found
+
+
 def head_of(name):
     """The first paragraph of a crate's own comment, as one line, and the file in which it stands."""
     path = next((f"crates/{name}/{it}" for it in HEADS if os.path.isfile(f"crates/{name}/{it}")), None)

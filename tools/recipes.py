@@ -8,6 +8,7 @@ A recipe is a section "## TITLE". What stands in parentheses is not read. A name
 behind `specs:`, `src:` or `proofs:` each name in backticks is a file there, up to the end of the sentence. A path with `/` is one below
 crates/, or at the top. A line "*Words*: `A`, `B`." has the words of the model.
 """
+import functools
 import glob
 import os
 import re
@@ -55,16 +56,20 @@ def listed(text):
     return list(dict.fromkeys(files))
 
 
-def standing(words):
-    """The files of definitions, code and proofs in which one of the words stands."""
-    word = re.compile(r"\b(" + "|".join(words) + r")\b")
-    found = set()
+@functools.cache
+def sources():
+    """The files of definitions, code and proofs, by their paths, each as the set of its words."""
+    found = {}
     for folder, ending in ENDINGS.items():
         for path in glob.glob(f"crates/*/{folder}/**/*{ending}", recursive=True):
             with open(path, encoding="utf-8") as file:
-                if word.search(file.read()):
-                    found.add(path)
+                found[path] = set(re.findall(r"\w+", file.read()))
     return found
+
+
+def standing(words):
+    """The files of definitions, code and proofs in which one of the words stands."""
+    return {path for path, found in sources().items() if not found.isdisjoint(words)}
 
 
 def main():

@@ -14,9 +14,11 @@ import sys
 import time
 from concurrent.futures import ThreadPoolExecutor, as_completed
 
-CASES, TESTS = "crates/cases", ("basics_tests", "opencl_tests", "host_tests")
+from check_cases import AS_TOLD, CASES, files_of_cases, miscounted, told_counts
+from crates import text_of
+
+TESTS = ("basics_tests", "opencl_tests", "host_tests")
 PROGRAM = os.path.abspath(f"{CASES}/out/unproved/cases")
-AS_TOLD = re.compile(r"^(\S+): (\d+) as told$", re.M)
 RESULT = re.compile(r"^test result: .*?(\d+) passed; (\d+) failed", re.M)
 QUIET = {"stdin": subprocess.DEVNULL, "stdout": subprocess.PIPE, "stderr": subprocess.STDOUT, "text": True, "errors": "replace"}
 # The seconds after which a process counts as hung, on a slow machine, too.
@@ -25,11 +27,6 @@ LIMIT = 1200
 
 def say(text):
     print(f"kverify: {text}", file=sys.stderr, flush=True)
-
-
-def text_of(path):
-    with open(path, encoding="utf-8") as file:
-        return file.read()
 
 
 def ran(words, folder):
@@ -95,15 +92,20 @@ def tests_of(crate):
     return Job(crate, run, functions)
 
 
+def miscounts(faults):
+    """A job that fails by these faults of the numbers of cases, which the gate compares, too."""
+    return Job("stdout", lambda: (0, "\n".join(faults)), 1)
+
+
 def jobs_of_cases():
     """What the files `args` and `stdout` of the program of cases ask for, with a process for each file of cases."""
-    words, told = text_of(f"{CASES}/args").splitlines(), text_of(f"{CASES}/stdout")
-    counts = {name: int(count) for name, count in AS_TOLD.findall(told)}
-    names = words[1 : words.index("then")]
+    names, counts, faults = files_of_cases(), told_counts(), list(miscounted())
     unlike = set(names) ^ set(counts)
     if unlike:
         sys.exit(f"kverify: {CASES}/args and {CASES}/stdout do not name the same files: {', '.join(sorted(unlike))}")
-    return [*(cases_of(it, counts[it]) for it in names), others(words[words.index("then") + 1 :], AS_TOLD.sub("", told).lstrip("\n"))]
+    words = text_of(f"{CASES}/args").splitlines()[len(names) + 2 :]
+    rest = AS_TOLD.sub("", text_of(f"{CASES}/stdout")).lstrip("\n")
+    return [*(cases_of(it, counts[it]) for it in names), others(words, rest), *([miscounts(faults)] if faults else [])]
 
 
 def is_compiled():

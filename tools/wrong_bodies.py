@@ -3,7 +3,7 @@
 refuse. They have the form of the edits in crates/CRATE/must-fail, and are tried as the gate tries those.
 
 usage: tools/wrong_bodies.py [CRATE..], at the top of the repository; without a crate, all. The libraries below a crate are built where they
-are not. The status is 1 where one is not refused.
+are not. The status is 1 where one is not refused. Whether each can be tried at all tools/check_cases.py says at once.
 """
 import glob
 import os

@@ -11,15 +11,15 @@ told, too, where it differs, as it does where a certificate has numbers at the e
 
 Build the program first: ./kverify build
 """
+import itertools
 import os
-import random
 import re
 import subprocess
 import sys
 import tempfile
 
 sys.path.insert(0, os.path.dirname(os.path.dirname(os.path.abspath(__file__))))
-from common import KVERIFY, ROOT, certificate_lines, certificate_text
+from common import KVERIFY, ROOT, certificate_lines, certificate_text, dice_of, print_counts, put
 
 CHANGED = 2
 LOOPS = """__kernel __attribute__((reqd_work_group_size(8, 1, 1))) void k(__global uint *a, __global const int *b, uint n, int m) {
@@ -304,11 +304,6 @@ class Program:
         return self.said("check", self.kernel, self.conditions, self.old)
 
 
-def put(name, content):
-    with open(name, "wb") as out:
-        out.write(content)
-
-
 def sources(program):
     """Kernels with their conditions and a certificate: the examples, and those above with the certificate that `prove` finds."""
     for name in EXAMPLES:
@@ -333,8 +328,7 @@ def compare(folder, count, seed):
     with tempfile.TemporaryDirectory() as place:
         program = Program(place)
         proved = list(sources(program))
-        for attempt in range(count):
-            rng = random.Random(f"{seed}:{attempt}")
+        for attempt, rng in itertools.islice(dice_of(seed), count):
             kernel, conditions, certificate = rng.choice(proved) if attempt % 2 else (LOOPS.encode(), LOOPS_CONDITIONS.encode(), None)
             lines = changed_lines(rng, certificate) if certificate else Random(rng).lines()
             texts = [certificate_text(lines, version) for version in (1, 2)]
@@ -354,8 +348,7 @@ def compare(folder, count, seed):
                         is_alike = command == "check" and is_read(got[1]) and is_read(wanted[1])
                         found["read alike, but checked otherwise" if is_alike else "different"] += 1
                         print(f"certificate {seed}:{attempt}, text {at}: {command} gives {got}, not {wanted}: {text!r}")
-    for what, number in found.items():
-        print(f"{number} {what}")
+    print_counts(found)
     return found["different"]
 
 

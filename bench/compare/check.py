@@ -13,7 +13,6 @@
 Build the program first: ./kverify build
 """
 import os
-import random
 import re
 import signal
 import subprocess
@@ -22,7 +21,7 @@ import tempfile
 import time
 
 sys.path.insert(0, os.path.dirname(os.path.dirname(os.path.abspath(__file__))))
-from common import KVERIFY, ROOT, has_exit, launch_text
+from common import KVERIFY, ROOT, dice_of, first_line, has_exit, launch_text, print_counts, put, put_all
 from makers import HEAD, Guarded
 
 EMPTY = b"certificate 2\nend\n"
@@ -48,19 +47,13 @@ def within(seconds, function, *words):
 
 def checked(folder, kernel, conditions, certificate):
     """The first line of what the program prints."""
-    names = [os.path.join(folder, name) for name in ("kernel.cl", "conditions.txt", "certificate.txt")]
-    for name, text in zip(names, (kernel, conditions, certificate)):
-        with open(name, "wb") as out:
-            out.write(text)
-    done = subprocess.run([KVERIFY, "check", *names], capture_output=True, text=True, timeout=600)
-    return (done.stdout + done.stderr).split("\n")[0]
+    return first_line("check", *put_all(folder, {"kernel.cl": kernel, "conditions.txt": conditions, "certificate.txt": certificate}))
 
 
 def ran(folder, launch):
     """What is written of a run of what was checked last."""
     names = [os.path.join(folder, name) for name in ("kernel.cl", "conditions.txt", "certificate.txt", "launch.txt")]
-    with open(names[-1], "w", encoding="ascii") as out:
-        out.write(launch)
+    put(names[-1], launch)
     return subprocess.run([KVERIFY, "run", *names, "--workers", "3"], capture_output=True, text=True, timeout=600).stdout
 
 
@@ -114,11 +107,10 @@ class Answers:
 def compare(folder, count, seed, exits):
     answers = Answers(folder)
     found = dict.fromkeys(("kernels", "without loops and barriers", "certificates", "accepted", "refused", "changed ones accepted", "runs", "given up", "different"), 0)
-    attempt = 0
     with tempfile.TemporaryDirectory() as place:
-        while found["kernels"] < count:
-            rng = random.Random("%d:%d" % (seed, attempt))
-            attempt += 1
+        for attempt, rng in dice_of(seed):
+            if found["kernels"] >= count:
+                break
             source = rng.choice([lambda: answers.fuzz.Gen(rng).kernel(), lambda: Guarded(rng).kernel(), lambda: answers.changed_example(rng)])
             kernel, conditions = (text.encode() for text in source())
             if exits and not has_exit(kernel.decode()):
@@ -146,15 +138,14 @@ def compare(folder, count, seed, exits):
                 found["changed ones accepted"] += wanted == "accepted" and certificate != made
                 if got != wanted:
                     found["different"] += 1
-                    print(f"kernel {seed}:{attempt - 1}: {got}, not {wanted}")
+                    print(f"kernel {seed}:{attempt}: {got}, not {wanted}")
                 run = answers.run_of(rng, typed, read) if got == wanted == "accepted" and certificate == made else None
                 if run:
                     found["runs"] += 1
                     if ran(place, run[0]) != run[1]:
                         found["different"] += 1
-                        print(f"kernel {seed}:{attempt - 1}: its run differs")
-    for what, number in found.items():
-        print(f"{number} {what}")
+                        print(f"kernel {seed}:{attempt}: its run differs")
+    print_counts(found)
     return found["different"]
 
 

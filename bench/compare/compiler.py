@@ -28,7 +28,7 @@ os.environ["PYOPENCL_NO_CACHE"] = "1"
 import pyopencl  # noqa: E402
 
 sys.path.insert(0, os.path.dirname(os.path.dirname(os.path.abspath(__file__))))
-from common import KVERIFY  # noqa: E402
+from common import KVERIFY, put  # noqa: E402
 
 RANGES = {"uint": (0, 2**32 - 1), "int": (-(2**31), 2**31 - 1)}
 TYPES = {"uint": numpy.uint32, "int": numpy.int32}
@@ -112,20 +112,15 @@ def compare(device, text, conditions, launches, options=()):
     """What is told of a kernel: passed over, the same or not; with these options of the program."""
     with tempfile.TemporaryDirectory() as folder:
         names = [os.path.join(folder, it) for it in ("kernel.cl", "conditions", "certificate", "launch")]
-
-        def write(name, what):
-            with open(name, "w", encoding="ascii", newline="") as out:
-                out.write(what)
-
-        write(names[0], text)
-        write(names[1], conditions)
+        put(names[0], text)
+        put(names[1], conditions)
         status, answer = said(["prove", *names[:2], "--out", names[2], *options])
         if status:
             return " ".join(answer.split()[:2])
         for launch in launches:
             wanted = []
             for fill in (0, 77):
-                write(names[3], launch.text(fill))
+                put(names[3], launch.text(fill))
                 status, answer = said(["run", *names, *options])
                 wanted.append(buffers_of([line.split() for line in answer.splitlines()]))
                 if status:
@@ -288,17 +283,30 @@ def random_kernel(dice):
     """A kernel, its conditions and launches."""
     size, groups = dice.choice([1, 2, 4, 8]), dice.choice([1, 2, 3])
     kinds = {"u": "uint", "v": "uint", "s": "int", "o": "uint", "p": "int"}
-    parameters = [f"__global {kind} *{name}" for name, kind in kinds.items()] + ["int m", "uint n"]
     body = [f"__local uint t[{size}];", "uint g = (uint)get_global_id(0);"]
     body += expressions(dice) if dice.random() < 0.5 else turns(dice, size)
-    text = f"__kernel __attribute__((reqd_work_group_size({size}, 1, 1)))\nvoid k({', '.join(parameters)}) {{\n" + "\n".join(body) + "\n}\n"
+    conditions = conditions_text(groups, size, kinds, "-2147483648..2147483647", "0..4294967295")
+    arguments = lambda: {"m": some_words(dice, "int", 1)[0], "n": some_words(dice, "uint", 1)[0]}
+    return kernel_text(size, kinds, body), conditions, launches_of(dice, groups, size, kinds, arguments)
+
+
+def kernel_text(size, kinds, body):
+    """The text of a kernel with buffers of these kinds and the arguments m and n."""
+    parameters = [f"__global {kind} *{name}" for name, kind in kinds.items()] + ["int m", "uint n"]
+    head = f"__kernel __attribute__((reqd_work_group_size({size}, 1, 1)))\nvoid k({', '.join(parameters)}) {{\n"
+    return head + "\n".join(body) + "\n}\n"
+
+
+def conditions_text(groups, size, kinds, range_of_m, range_of_n):
+    """Conditions of such a kernel: an element of each buffer for each work-item."""
     lengths = "".join(f"length {name} >= {size}*groups.0\n" for name in kinds)
-    conditions = f"conditions 1\ngroups 1..{groups} 1..1 1..1\narg m -2147483648..2147483647\narg n 0..4294967295\n{lengths}budget 1000\n"
-    launches = []
-    for _ in range(3):
-        arguments = {"m": some_words(dice, "int", 1)[0], "n": some_words(dice, "uint", 1)[0]}
-        launches.append(Launch([groups, 1, 1], arguments, {name: some_words(dice, kind, size * groups) for name, kind in kinds.items()}))
-    return text, conditions, launches
+    return f"conditions 1\ngroups 1..{groups} 1..1 1..1\narg m {range_of_m}\narg n {range_of_n}\n{lengths}budget 1000\n"
+
+
+def launches_of(dice, groups, size, kinds, arguments):
+    """Three launches of such a kernel, each with new arguments and words."""
+    count = size * groups
+    return [Launch([groups, 1, 1], arguments(), {name: some_words(dice, kind, count) for name, kind in kinds.items()}) for _ in range(3)]
 
 
 IDS = [f"get_{it}(0)" for it in ("global_id", "local_id", "group_id", "global_size", "local_size", "num_groups")]
@@ -325,18 +333,12 @@ def kernel_of_ids(dice):
     """A kernel that computes with ids, its conditions and launches."""
     size, groups = dice.choice([1, 2, 4, 8]), dice.choice([1, 2, 3])
     kinds = {"u": "uint", "s": "int", "o": "uint", "p": "int"}
-    parameters = [f"__global {kind} *{name}" for name, kind in kinds.items()] + ["int m", "uint n"]
     body = ["uint g = get_global_id(0);", f"uint x = {of_ids(dice, 2)};"]
     body += [f"if ({of_ids(dice, 2)}) x ^= {of_ids(dice, 1)};"] if dice.random() < 0.5 else []
     body += [f"o[get_global_id(0)] = {of_ids(dice, 3)} + x;", f"p[g] = (int)({of_ids(dice, 2)} % 65536u);"]
-    text = f"__kernel __attribute__((reqd_work_group_size({size}, 1, 1)))\nvoid k({', '.join(parameters)}) {{\n" + "\n".join(body) + "\n}\n"
-    lengths = "".join(f"length {name} >= {size}*groups.0\n" for name in kinds)
-    conditions = f"conditions 1\ngroups 1..{groups} 1..1 1..1\narg m {dice.choice([-3, 0])}..100\narg n 0..1000\n{lengths}budget 1000\n"
-    launches = []
-    for _ in range(3):
-        arguments = {"m": dice.randint(0, 100), "n": dice.randint(0, 1000)}
-        launches.append(Launch([groups, 1, 1], arguments, {name: some_words(dice, kind, size * groups) for name, kind in kinds.items()}))
-    return text, conditions, launches
+    conditions = conditions_text(groups, size, kinds, f"{dice.choice([-3, 0])}..100", "0..1000")
+    arguments = lambda: {"m": dice.randint(0, 100), "n": dice.randint(0, 1000)}
+    return kernel_text(size, kinds, body), conditions, launches_of(dice, groups, size, kinds, arguments)
 
 
 def random_kernels(make, seconds, seed):

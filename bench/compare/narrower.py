@@ -12,12 +12,11 @@ search, and what it proves is printed. Build the program first: ./kverify build
 """
 import itertools
 import os
-import subprocess
 import sys
 import tempfile
 
 sys.path.insert(0, os.path.dirname(os.path.dirname(os.path.abspath(__file__))))
-from common import KVERIFY
+from common import first_line, put_all
 
 SIZES = (32, 1)
 # Ranges of the group count, of a `uint` and of an `int`: of kernels with one argument, and of those with more.
@@ -243,12 +242,7 @@ def choices_of(name):
 
 def answer(folder, kernel, conditions):
     """The first line of what the program prints."""
-    files = [os.path.join(folder, it) for it in ("kernel.cl", "conditions.txt")]
-    for file, text in zip(files, (kernel, conditions)):
-        with open(file, "w", encoding="ascii") as out:
-            out.write(text)
-    done = subprocess.run([KVERIFY, "prove", *files], capture_output=True, text=True, timeout=600)
-    return (done.stdout + done.stderr).split("\n")[0]
+    return first_line("prove", *put_all(folder, {"kernel.cl": kernel, "conditions.txt": conditions}))
 
 
 def is_narrower(one, other):

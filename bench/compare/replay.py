@@ -9,8 +9,6 @@
 Build the program first: python3 tools/build.py cases
 """
 import os
-import random
-import re
 import resource
 import subprocess
 import sys
@@ -18,17 +16,15 @@ import tempfile
 import time
 
 sys.path.insert(0, os.path.dirname(os.path.dirname(os.path.abspath(__file__))))
-from common import CASES, ROOT, has_exit, launch_text
+from common import CASES, ROOT, dice_of, has_exit, launch_text, print_counts, put_all
 
 EVENTS = 400
 TIMES = 3
 
 
 def replayed(folder, kernel, launch, schedule):
-    names = [os.path.join(folder, name) for name in ("kernel.cl", "launch.txt", "schedule.txt")]
-    for name, text in zip(names, (kernel, launch, schedule)):
-        with open(name, "w") as out:
-            out.write(text)
+    """What the program of the tests of texts prints of a schedule."""
+    names = put_all(folder, {"kernel.cl": kernel, "launch.txt": launch, "schedule.txt": schedule})
     return subprocess.run([CASES, "replay", *names], check=True, capture_output=True, text=True).stdout
 
 
@@ -94,11 +90,10 @@ def compare(folder, count, seed, exits):
     config.stage("b")
     config.R15 = True
     found = dict.fromkeys(("kernels", "events", "done", "not possible", "faults", "races", "divergences", "over", "different"), 0)
-    attempt = 0
     with tempfile.TemporaryDirectory() as place:
-        while found["kernels"] < count:
-            rng = random.Random("%d:%d" % (seed, attempt))
-            attempt += 1
+        for attempt, rng in dice_of(seed):
+            if found["kernels"] >= count:
+                break
             kernel, conditions = fuzz.Gen(rng).kernel()
             if exits and not has_exit(kernel):
                 continue
@@ -130,9 +125,8 @@ def compare(folder, count, seed, exits):
             text = replayed(place, kernel, launch_text(typed, launch), "\n".join(events) + "\n")
             if text.splitlines() != lines:
                 found["different"] += 1
-                print("kernel %d:%d differs" % (seed, attempt - 1))
-    for what, number in found.items():
-        print(f"{number} {what}")
+                print(f"kernel {seed}:{attempt} differs")
+    print_counts(found)
     return found["different"]
 
 

@@ -13,14 +13,12 @@ without a derivation, and the answer has to be 52 with its number. A range claim
 Build the program first: ./kverify build
 """
 import os
-import random
 import re
-import subprocess
 import sys
 import tempfile
 
 sys.path.insert(0, os.path.dirname(os.path.dirname(os.path.abspath(__file__))))
-from common import KVERIFY
+from common import dice_of, first_line, print_counts, put
 from makers import Guarded, Masked
 
 # Kernels with more obligations are left out.
@@ -152,32 +150,30 @@ class Program:
     def __init__(self, folder):
         self.names = [os.path.join(folder, name) for name in ("kernel.cl", "conditions.txt", "certificate.txt")]
 
-    def put(self, at, text):
-        with open(self.names[at], "wb") as out:
-            out.write(text)
+    def take(self, kernel, conditions):
+        """Takes the kernel of which certificates are checked from now on."""
+        put(self.names[0], kernel)
+        put(self.names[1], conditions)
 
     def checked(self, certificate):
-        self.put(2, certificate)
-        done = subprocess.run([KVERIFY, "check", *self.names], capture_output=True, text=True, timeout=600)
-        return (done.stdout + done.stderr).split("\n")[0]
+        put(self.names[2], certificate)
+        return first_line("check", *self.names)
 
 
 def compare(folder, count, seed, most):
     answers = Answers(folder)
     names = ("kernels", "obligations", "settled", "pairs of accesses", "of these settled", "without known bits", "tried one by one", "different")
     found = dict.fromkeys(names, 0)
-    attempt = 0
     with tempfile.TemporaryDirectory() as place:
         program = Program(place)
-        while found["kernels"] < count:
-            rng = random.Random(f"{seed}:{attempt}")
-            attempt += 1
+        for attempt, rng in dice_of(seed):
+            if found["kernels"] >= count:
+                break
             try:
                 tried = Tried(answers, rng)
             except answers.refusal:
                 continue
-            program.put(0, tried.kernel)
-            program.put(1, tried.conditions)
+            program.take(tried.kernel, tried.conditions)
             pairs = [it for it in tried.obligations if it.what == "race"]
             sample = tried.sample(most)
             found["kernels"] += 1
@@ -190,10 +186,9 @@ def compare(folder, count, seed, most):
                 got = program.checked(tried.text(of))
                 if got != wanted:
                     found["different"] += 1
-                    print(f"kernel {seed}:{attempt - 1}: {got}, not {wanted}{f': {of.what}' if of else ''}", flush=True)
+                    print(f"kernel {seed}:{attempt}: {got}, not {wanted}{f': {of.what}' if of else ''}", flush=True)
             found["without known bits"] += answers.without_bits(tried.walked)
-    for what, number in found.items():
-        print(f"{number} {what}")
+    print_counts(found)
     return found["different"]
 
 

@@ -19,7 +19,7 @@ import sys
 import tempfile
 
 sys.path.insert(0, os.path.dirname(os.path.dirname(os.path.abspath(__file__))))
-from common import KVERIFY
+from common import first_line
 
 # Seconds for each call of the program, and how many calls are made at once.
 LIMIT = 120
@@ -44,12 +44,9 @@ def answer(file, lines):
         conditions.write("\n".join(lines) + "\n")
         conditions.flush()
         try:
-            done = subprocess.run(
-                [KVERIFY, "prove", "--wide", "--workers", "1", file, conditions.name], capture_output=True, text=True, timeout=LIMIT
-            )
+            return first_line("prove", "--wide", "--workers", "1", file, conditions.name, timeout=LIMIT)
         except subprocess.TimeoutExpired:
             return "no answer"
-    return (done.stdout + done.stderr).split("\n")[0]
 
 
 def narrowed(rng, low, high):

@@ -14,7 +14,7 @@ import sys
 import tempfile
 
 sys.path.insert(0, os.path.dirname(os.path.dirname(os.path.abspath(__file__))))
-from common import KVERIFY, ROOT
+from common import KVERIFY, ROOT, number_behind
 
 WORKERS = (1, 3, 64)
 
@@ -45,11 +45,7 @@ def kernels_of(folder, names):
 
 def main(words):
     options = [word for word in words if word == "--wide"]
-    seconds = 60
-    if "--seconds" in words:
-        at = words.index("--seconds")
-        seconds = int(words[at + 1])
-        words = words[:at] + words[at + 2 :]
+    seconds, words = number_behind(words, "--seconds", 60)
     words = [word for word in words if word != "--wide"]
     is_folder = bool(words) and os.path.isdir(words[0])
     folder = words[0] if is_folder else os.path.join(ROOT, "bench", "kernels")

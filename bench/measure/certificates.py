@@ -21,7 +21,7 @@ import tempfile
 import time
 
 sys.path.insert(0, os.path.dirname(os.path.dirname(os.path.abspath(__file__))))
-from common import KVERIFY, ROOT, certificate_lines, certificate_text
+from common import KVERIFY, ROOT, certificate_lines, certificate_text, number_behind
 from prove import conditions_of
 
 LIMIT = 16_777_216
@@ -187,11 +187,7 @@ def main():
     if words == ["longest"]:
         print_longest()
         return
-    times = 1
-    if "--budgets" in words:
-        at = words.index("--budgets")
-        times = int(words[at + 1])
-        del words[at:at + 2]
+    times, words = number_behind(words, "--budgets", 1)
     print_sizes(sizes(words[0] if words else os.path.join(ROOT, "bench", "kernels"), times))
 
 

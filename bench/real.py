@@ -2,6 +2,8 @@
 """Says how many kernels of Debian's packages kverify reads, and what keeps the others out.
 
     real.py [--folder FOLDER] [--program PROGRAM] [--preprocess | --in-front] [--prove] [--out FILE] [--list FILE] [PACKAGE ..]
+    real.py --kept [--workers N] [--folder FOLDER] [--program PROGRAM] [--out FILE] [--list FILE] [PACKAGE ..]
+    real.py --draft SECONDS [--workers N] [--folder FOLDER] [--program PROGRAM] [PACKAGE ..]
 
 The kernels are collected once, into FOLDER (/tmp/real): packages are taken by `apt-get download` and unpacked there; texts are files,
 strings in libraries, and programs that the packages' own code builds while it runs against a library of OpenCL that runs nothing
@@ -13,6 +15,9 @@ refused by it alone is read. With --preprocess clang expands the macros before; 
 text; without either the conditions have `define` lines. With --prove each kernel that is read is also proved, in ten processor seconds at
 most, under conditions that relate nothing to anything. The tables go to the --out file too, each kernel with its answer to the --list
 file, as JSON.
+
+With --kept the kernels are proved for which real/kept has conditions, under these. With --draft conditions are drafted for kernels that
+have none there, in so many processor seconds each, and put there; FOLDER/drafts has what was tried. Both have what a host defines in front.
 """
 import argparse
 import collections
@@ -29,6 +34,10 @@ import subprocess
 import sys
 import tempfile
 import time
+
+# (no file is to appear beside this one)
+sys.dont_write_bytecode = True
+import real_kept
 
 HERE = os.path.dirname(os.path.abspath(__file__))
 ROOT = os.path.dirname(HERE)
@@ -446,19 +455,40 @@ def answer(program, command, text, told, folder, seconds):
     return (said.stdout.splitlines() or [f"status {said.returncode} {said.stderr.strip()}"])[0]
 
 
+def index_of(folder, source):
+    """What is known of the texts of a source, and the folder that they are in."""
+    to = os.path.join(folder, "kernels", re.sub(r"\W", "_", source.lower()))
+    return json.loads(read(os.path.join(to, "index.json"))), to
+
+
+def texts_given(words, source):
+    """Of each text of a source that clang builds: what is known of it, the text as it is given, and what its conditions define."""
+    texts, to = index_of(words.folder, source)
+    for row in texts:
+        if row["faults"] is None:
+            text = read(os.path.join(to, row["name"] + (".expanded.cl" if words.preprocess else ".cl")))
+            defines = [] if words.preprocess else row["defines"]
+            # (what no `define` line can say stands in front of the text, or all does)
+            in_front = [it for it in defines if words.in_front or not is_line(it)]
+            text = "".join(f"#define {(it if '=' in it else it + '=1').replace('=', ' ', 1)}\n" for it in in_front) + text
+            yield row, text, [it for it in defines if it not in in_front]
+
+
+def plain_kernels(words, source):
+    """The kernels of a source that have no images and atomics, as they are given, with the sums of their texts."""
+    to = index_of(words.folder, source)[1]
+    for row, text, _ in texts_given(words, source):
+        expanded = read(os.path.join(to, row["name"] + ".expanded.cl"))
+        for kernel in row["kernels"]:
+            if not kernel["special"]:
+                yield real_kept.Given(source, kernel, body_of(expanded, kernel["name"]), text)
+
+
 def measure(words, source):
     """Of each kernel of a source that has no images and atomics: its name, what is said of it, and the construct that keeps it out."""
-    to = os.path.join(words.folder, "kernels", re.sub(r"\W", "_", source.lower()))
     rows = []
-    for row in json.loads(read(os.path.join(to, "index.json"))):
-        if row["faults"] is not None:
-            continue
-        text, declared = read(os.path.join(to, row["name"] + (".expanded.cl" if words.preprocess else ".cl"))), None
-        defines = [] if words.preprocess else row["defines"]
-        # (what no `define` line can say stands in front of the text, or all does)
-        in_front = [it for it in defines if words.in_front or not is_line(it)]
-        text = "".join(f"#define {(it if '=' in it else it + '=1').replace('=', ' ', 1)}\n" for it in in_front) + text
-        defines = [it for it in defines if it not in in_front]
+    for row, text, defines in texts_given(words, source):
+        declared = None
         for kernel in row["kernels"]:
             if kernel["special"]:
                 continue
@@ -700,7 +730,7 @@ def tables(words, measured):
     head = ["Source", "Kernels", "Not built", "Without images and atomics", "Read", "Of 100", *(["Accepted"] if words.prove else [])]
     lines, whole = [head], collections.Counter()
     for source, rows in measured.items():
-        texts = json.loads(read(os.path.join(words.folder, "kernels", re.sub(r"\W", "_", source.lower()), "index.json")))
+        texts, _ = index_of(words.folder, source)
         counts = collections.Counter(kernels=sum(len(it["kernels"]) for it in texts), left=sum(it.get("kernels_named", 0) for it in texts),
                                      plain=len(rows), read=sum(it["read"] for it in rows),
                                      proved=sum(it["proved"] == "accepted" for it in rows))
@@ -735,6 +765,23 @@ def needs_table(measured):
     return lines
 
 
+def of_kept(words, sources):
+    """Drafts conditions for kernels that have none, or proves those that have some."""
+    words.in_front = True
+    kernels = [it for source in sources for it in plain_kernels(words, source)]
+    if words.draft:
+        real_kept.drafted(words, kernels)
+        return 0
+    found = real_kept.proved(words, kernels)
+    if words.list:
+        write(words.list, json.dumps(found, indent=1))
+    told = table(real_kept.rows_of(found))
+    if words.out:
+        write(words.out, told)
+    print(told)
+    return 0
+
+
 def main():
     parser = argparse.ArgumentParser(usage=__doc__)
     parser.add_argument("--folder", default="/tmp/real")
@@ -742,12 +789,17 @@ def main():
     parser.add_argument("--preprocess", action="store_true")
     parser.add_argument("--in-front", action="store_true")
     parser.add_argument("--prove", action="store_true")
+    parser.add_argument("--kept", action="store_true")
+    parser.add_argument("--draft", type=int, metavar="SECONDS")
+    parser.add_argument("--workers", type=int, default=1)
     parser.add_argument("--out")
     parser.add_argument("--list")
     parser.add_argument("packages", nargs="*", default=[])
     words = parser.parse_args()
     sources = words.packages or list(SOURCES)
     collect(words.folder, sources)
+    if words.draft or words.kept:
+        return of_kept(words, sources)
     measured = {}
     with tempfile.TemporaryDirectory() as words.scratch:
         for it in sources:

@@ -13,7 +13,7 @@ _kverify() {
         prove:-*) mapfile -t COMPREPLY < <(compgen -W '--workers --out --devices --narrow' -- "$word") ;;
         run:-*) mapfile -t COMPREPLY < <(compgen -W '--workers --devices --narrow' -- "$word") ;;
         draft:-*) mapfile -t COMPREPLY < <(compgen -W '--head --launch --out --seconds' -- "$word") ;;
-        check:-* | explain:-*) mapfile -t COMPREPLY < <(compgen -W '--devices --narrow' -- "$word") ;;
+        check:-* | explain:-* | print:-*) mapfile -t COMPREPLY < <(compgen -W '--devices --narrow' -- "$word") ;;
         *) mapfile -t COMPREPLY < <(compgen -f -- "$word") ;;
         esac
         ;;

@@ -135,7 +135,11 @@ def clauses_of(file, function):
             brought.bring(line.removeprefix("ghost use ").rstrip(";"))
     begin = next(at for at, line in enumerate(lines) if line.startswith(f"pub fn {function}"))
     end = next(at for at, line in enumerate(lines) if at > begin and line == "{")
-    words = {word for line in lines[begin:end] if line.lstrip().startswith("ensures") for word in NAME.findall(line)}
+    words, is_told = set(), False
+    for line in lines[begin:end]:
+        # (a clause may go on over several lines, which stand further in)
+        is_told = line.lstrip().startswith("ensures") or is_told and not line.lstrip().startswith("requires")
+        words |= set(NAME.findall(line)) if is_told else set()
     found = [brought.names[word] for word in sorted(words) if word in brought.names]
     return [(path_of(module), name) for module, name in found if path_of(module)]
 

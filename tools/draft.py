@@ -16,7 +16,7 @@ import tempfile
 
 # (no file is to appear beside this one)
 sys.dont_write_bytecode = True
-from draft_conditions import Launch
+from draft_conditions import Launch, Sum
 from draft_kernels import Kernel, Unread, kernel_names
 from draft_prover import Prover
 from draft_search import NotRead, Search
@@ -72,9 +72,9 @@ def completed(head, text, tell=say):
         tell(f"the kernel says no work-group size; taken is {sizes[0]}")
     x, y, z = kernel.size or map(int, sizes[0].split()[1:])
     given = {it.split()[1]: it for it in head if it.startswith("local ")}
-    for name in kernel.locals():
+    for name, components in kernel.locals().items():
         if name not in given:
-            given[name] = f"local {name} {x * y * z}"
+            given[name] = f"local {name} {x * y * z * components}"
             tell(f"nobody says how long the array {name} is; taken is {given[name]}")
     others = [it for it in head if not it.startswith(("local_size ", "local "))]
     return kernel, tuple([*others, *sizes, *(given[it] for it in kernel.locals())])
@@ -102,6 +102,8 @@ def tell(search, is_cut, words):
     if is_cut:
         say(f"the search went to its limit of {words.seconds} processor seconds (--seconds)")
     if search.found:
+        if search.found.lengths and all(least == Sum() for _, least in search.found.lengths):
+            say("no buffer needs an element, so at no launch that meets the text does the kernel load or store one")
         if words.out:
             with open(words.out, "w", encoding="utf-8") as file:
                 file.write(str(search.found))

@@ -16,6 +16,14 @@ QUALIFIERS = {"const", "restrict", "__restrict", "__restrict__", "volatile", "gl
 COMMENT = re.compile(r"//[^\n]*|/\*.*?\*/", re.S)
 ATTRIBUTE = r"__attribute__\s*\(\(.*?\)\)\s*"
 HEAD = re.compile(rf"\b(?:__)?kernel\b[^;{{}}]*?\bvoid\s+(?:{ATTRIBUTE})*(?P<name>\w+)\s*\(", re.S)
+DIRECTIVE = re.compile(r"[ \t]*#[ \t]*(\w*)[ \t]*(.*)")
+NO_DIRECTIVE = re.match("(x)?(x)?", "")
+# The condition of a directive, as Python has it, and what makes none of it: a call, or what numbers get long by.
+CONDITION = re.compile(r"(?:\b(?:and|or|not)\b|\d{1,10}\b|[-+*/%()<>=!&|^~\s])*")
+NO_CONDITION = re.compile(r"\*\*|[\d)]\s*\(|<<(?!\s*\d{1,2}\s*(?:[)&|^<>=]|and|or|$))")
+# What each text finds defined.
+GIVEN = {"__OPENCL_VERSION__": "120", "__OPENCL_C_VERSION__": "120", "CL_VERSION_1_0": "100", "CL_VERSION_1_1": "110",
+         "CL_VERSION_1_2": "120", "__ENDIAN_LITTLE__": "1"}
 ID = r"\bget_%s_id\s*\(\s*(\w+)\s*\)"
 
 
@@ -32,6 +40,8 @@ class Parameter:
     ends: tuple = (0, 0)
     is_float: bool = False
     is_constant: bool = False
+    # Of what a `__local` parameter points to: how many elements one has.
+    components: int = 1
 
 
 class Source:
@@ -39,8 +49,8 @@ class Source:
 
     def __init__(self, text, defines=()):
         text = COMMENT.sub(" ", text.replace("\r\n", "\n").replace("\\\n", ""))
-        macros = macros_of(text, defines)
-        self.text = expanded(re.sub(r"^[ \t]*#.*$", "", text, flags=re.M), macros)
+        text, macros = standing(text, defines)
+        self.text = expanded(text, macros)
         self.heads = [it for it in HEAD.finditer(self.text) if opens_body(self.text, it.end())]
 
 
@@ -81,7 +91,8 @@ class Kernel:
                 if (it.is_constant or name not in kept) and not it.is_float}
 
     def locals(self):
-        return [name for it in self.parameters if it.kind == "local" for name in it.names]
+        """The `__local` arrays, and how many elements one has of what they are arrays of: a vector's components."""
+        return {name: it.components for it in self.parameters if it.kind == "local" for name in it.names}
 
     def default_size(self):
         """The work-group size to begin with where nobody says one."""
@@ -89,15 +100,49 @@ class Kernel:
         return LOCAL_SIZES[max(asked, default=0) + 1]
 
 
-def macros_of(text, defines):
-    """The macros without parameters that a text and a host define, by their names."""
-    macros = {}
-    for name, tokens in re.findall(r"^[ \t]*#[ \t]*define[ \t]+(\w+)(?:[ \t]+([^\n]*))?$", text, re.M):
-        macros.setdefault(name, tokens.strip())
-    for define in defines:
-        name, blank, tokens = define.partition(" ")
-        macros[name] = tokens if blank else "1"
-    return macros
+def standing(text, defines):
+    """What directives let stand of a text, and the macros without parameters that it and a host define, by their names."""
+    macros = {define.partition(" ")[0]: define.partition(" ")[2] if " " in define else "1" for define in defines}
+    # (of each condition around a line: whether the line stands by it, and whether some part of it has stood)
+    lines, around, now = [], [], {**GIVEN, **macros}
+    for line in text.split("\n"):
+        word, rest = (DIRECTIVE.match(line) or NO_DIRECTIVE).groups()
+        if word in ("if", "ifdef", "ifndef"):
+            holds = is_true(rest, now) if word == "if" else (rest.split(" ")[0] in now) == (word == "ifdef")
+            around.append((holds, holds))
+        elif word in ("elif", "else") and around:
+            holds = not around[-1][1] and (word == "else" or is_true(rest, now))
+            around[-1] = holds, holds or around[-1][1]
+        elif word == "endif" and around:
+            around.pop()
+        elif all(stands for stands, _ in around):
+            if found := word == "define" and re.match(r"(\w+)(\(?)[ \t]*(.*)", rest):
+                now[found.group(1)] = found.group(3).strip()
+                if not found.group(2):
+                    macros.setdefault(found.group(1), found.group(3).strip())
+            elif word == "undef":
+                now.pop(rest.strip(), None)
+            lines.append("" if word is not None else line)
+    return "\n".join(lines), macros
+
+
+def is_true(text, macros):
+    """Whether the condition of a directive holds; one that is not known does not."""
+    text = re.sub(r"\bdefined\s*(?:\(\s*(\w+)\s*\)|(\w+))", lambda found: str(int((found.group(1) or found.group(2)) in macros)), text)
+    text = re.sub(r"\b(0[xX][0-9a-fA-F]+|\d+)[uUlL]*\b", lambda found: number_of(found.group(1)), expanded(text, macros))
+    text = re.sub(r"\b[A-Za-z_]\w*\b", "0", text)
+    text = re.sub(r"!(?!=)", " not ", text.replace("&&", " and ").replace("||", " or ").replace("/", "//"))
+    if len(text) > 1024 or NO_CONDITION.search(text) or not CONDITION.fullmatch(text):
+        return False
+    try:
+        return bool(eval(text, {"__builtins__": {}}))  # noqa: S307 (it has numbers and signs alone)
+    except (ArithmeticError, SyntaxError, TypeError, ValueError, MemoryError, RecursionError):
+        return False
+
+
+def number_of(text):
+    """A number of a condition, as Python has it."""
+    return str(int(text, 16 if text[:2] in ("0x", "0X") else 8 if re.fullmatch(r"0[0-7]+", text) else 10))
 
 
 def expanded(text, macros):
@@ -159,18 +204,18 @@ def parameter_of(text, named):
     if len(words) < 2:
         raise Unread(f"a parameter that is not known: {text.strip()}")
     name, is_pointer = words[-1], "*" in text or "[" in text
-    if is_pointer and {"local", "__local"} & set(words):
-        return Parameter("local", (name,))
     of = " ".join(it for it in words[:-1] if it not in QUALIFIERS)
     for _ in range(4):
         of = " ".join(it for it in named.get(of, of).split() if it not in QUALIFIERS)
     of = SPELLINGS.get(of, of)
     scalar, count = re.fullmatch(r"(.*?)(\d*)", of).groups()
     ends = RANGES.get(scalar, RANGES["uint"])
-    if is_pointer:
-        return Parameter("buffer", (name,), ends, scalar == "float", bool({"const", "constant", "__constant"} & set(words)))
     # (of three components a parameter has four)
     components = {"": 0, "3": 4}.get(count, int(count or 0))
+    if is_pointer and {"local", "__local"} & set(words):
+        return Parameter("local", (name,), components=max(1, components))
+    if is_pointer:
+        return Parameter("buffer", (name,), ends, scalar == "float", bool({"const", "constant", "__constant"} & set(words)))
     return Parameter("value", tuple(f"{name}_s{at:x}" for at in range(components)) or (name,), ends, scalar == "float")
 
 

@@ -12,7 +12,7 @@ import traceback
 
 sys.dont_write_bytecode = True
 from draft_conditions import LONGEST, Conditions, Launch, Sum, least_launch, some_launch
-from draft_kernels import Kernel, Unread, kernel_names
+from draft_kernels import Kernel, Unread, is_true, kernel_names
 from draft_prover import Answer, Prover
 from draft_search import Search, joined
 
@@ -107,7 +107,7 @@ def test_kernels_of_a_file():
     expect_same((first.size, second.size, third.size), (None, (16, 16, 1), (8, 1, 1)))
     expect_same((first.dimensions, second.dimensions, third.dimensions), ({0}, {0, 1}, set()))
     expect_same(first.values(), [("x", 0, LONGEST), ("n_s0", -32768, 32767), ("n_s1", -32768, 32767)])
-    expect_same((second.values(), second.locals()), ([("c", 0, 255)], ["s"]))
+    expect_same((second.values(), second.locals()), ([("c", 0, 255)], {"s": 4}))
     expect_same((list(second.buffers()), list(second.loaded())), (["a", "tab", "b"], ["tab"]))
     expect(32 in second.numbers, "the number 0x20")
     expect_same(third.default_size(), (8, 8, 4))
@@ -115,6 +115,34 @@ def test_kernels_of_a_file():
 
 def test_what_a_host_defines():
     expect_same(Kernel("__kernel void k(T *a) { }", ["T __global uchar"]).buffers(), {"a": (0, 255)})
+
+
+BRANCHES = """#ifndef T
+#define T uint
+#endif
+#if defined(WIDE) && WIDE > 1 || T
+__kernel void k(__global T *a, uint wide) {
+#elif __OPENCL_VERSION__ >= 120
+__kernel void k(__global T *a) {
+#else
+__kernel void k(__global T *a, uint old) {
+#endif
+#ifdef WIDE
+  if (wide) {
+#else
+  if (a[0]) {
+#endif
+    a[1] = 0; } }
+"""
+
+
+def test_directives():
+    expect_same(Kernel(BRANCHES).values(), [])
+    expect_same(Kernel(BRANCHES, ["WIDE 2", "T uchar"]).values(), [("wide", 0, LONGEST)])
+    expect_same(Kernel(BRANCHES, ["WIDE (1 << 1) - 1", "T uchar"]).buffers(), {"a": (0, 255)})
+    for text in ("9**9**9", "1 << 999999999", "1 << 9*9*9*9*9*9*9*9*9*9*9", "(", "1 / 0", "f(1)", "((" * 600):
+        expect(not is_true(text, {}), f"{text} does not hold")
+    expect(is_true("012 == 0xAu && !defined(A)", {}), "numbers of other bases")
 
 
 def test_texts_of_which_nothing_is_known():
@@ -218,6 +246,7 @@ SMALL = LINE + """void small(__global uint *a, uint n) {
   barrier(CLK_LOCAL_MEM_FENCE);
   a[get_global_id(0)] = row[31u - (l & 31u)];
 }"""
+NOTHING = LINE + "void nothing(__global uint *a, uint n) { uint i = get_global_id(0); if (i < n && n < i) a[i] = 1u; }"
 SHARED = LINE + "void shared(__global uint *a) { a[0] = get_global_id(0); }"
 DOUBLE = LINE + "void twice(__global double *a) { a[0] = 1.0; }"
 REDUCE = """__kernel void other(__global uint *a) { a[0] = 1u; }
@@ -296,6 +325,12 @@ def test_of_program_heads(program):
     said = program.draft(REDUCE.replace("__kernel void other", "void other"))
     expect_same((said.returncode, said.stdout.split("\n")[1:3]), (0, ["local_size 64 1 1", "local part 64"]))
     expect("taken is local_size 64 1 1" in said.stderr, said.stderr)
+
+
+def test_of_program_nothing_stored(program):
+    told = "no buffer needs an element"
+    expect(told in program.expect_draft(NOTHING).stderr, "it is told that nothing is stored")
+    expect(told not in program.expect_draft(FILL).stderr, "something is stored")
 
 
 def test_of_program_no_conditions(program):

@@ -205,7 +205,7 @@ def names_of_the_library(place):
     needs(nm="binutils")
     listed = lambda *words: {it.split("@")[0] for it in place.ran("nm", "-j", *words).split() if not it.endswith(":")}
     archive, shared = f"{place.prefix}/lib/libkverify.a", f"{place.prefix}/lib/libkverify.so.1"
-    wanted = {f"kv_{it}" for it in "version check explain options meets open allows close".split()}
+    wanted = {f"kv_{it}" for it in "version check explain options meets run open allows close".split()}
     found = listed("-g", "--defined-only", archive)
     expect(found == wanted, "the archive has the functions of kverify.h alone", found ^ wanted)
     found = listed("-u", archive) - NEEDED - {"_GLOBAL_OFFSET_TABLE_"}

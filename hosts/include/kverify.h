@@ -8,8 +8,8 @@
  * No pointer may be null, also where a length is 0. What is passed as `const` is only read, and nothing is kept after a call, but for what
  * kv_open keeps, which is a copy.
  *
- * WHAT IS PROVED. Of a library that is laid down as proved: kv_version, kv_check, kv_explain, kv_options and kv_meets. kv_open, kv_allows
- * and kv_close are C, a few lines over kv_check and kv_meets, and nothing is proved of them.
+ * WHAT IS PROVED. Of a library that is laid down as proved: kv_version, kv_check, kv_explain, kv_options, kv_meets and kv_run. kv_open,
+ * kv_allows and kv_close are C, a few lines over kv_check and kv_meets, and nothing is proved of them.
  *
  * WHAT AN ANSWER 0 SAYS. If kv_check answers 0 of (kernel, conditions, certificate, options), and kv_meets answers 0 of (kernel,
  * conditions, options) and a launch, then that launch has no data race, no barrier divergence, no access outside a buffer, no overflow of
@@ -57,7 +57,8 @@ extern "C" {
 
 /* What a call answers: its number again; the line of a text, the number of an obligation or of an argument; and a column of the kernel's
  * text, or 0. Which it is goes by the number: 1 to 28, 53 and 55 the kernel's line and column; 30 to 35, 40 and 45 a line of the
- * conditions; 50 a line of the certificate; 52 an obligation. */
+ * conditions; 50 a line of the certificate; 52 an obligation. Where kv_check answers 0 of the same texts, 30 to 34 of kv_run are a line of
+ * the launch. */
 typedef struct {
     uint32_t number, column;
     uint64_t place;
@@ -104,9 +105,19 @@ uint64_t kv_options(const void *conditions, size_t conditions_n, char *room, siz
 uint32_t kv_meets(const void *kernel, size_t kernel_n, const void *conditions, size_t conditions_n, uint32_t options,
                   const kv_range *range, const kv_argument *arguments, size_t arguments_n, kv_answer *answer);
 
-/* The same in two steps, in C: kv_open is kv_check, and where that answers 0 it keeps a copy of kernel and conditions; kv_allows is
- * kv_meets of these, and reads them anew each time. Of the options KV_BITS32 counts at kv_open, and KV_HELD at kv_allows. `handle` is
- * written only where the answer is 0. A handle may be used by many threads at once, and is gone after kv_close. */
+/* Checks the kernel, and runs it at a launch on the calling thread, without a device. The launch is a text, with the words of its buffers
+ * (docs/FORMATS.md, "Conditions and launches"); `values` lines are tested. Where the answer is 0, the text of the buffers with which every
+ * run of all work-items ends that is over, a line `buffer NAME list W W ..` each, has `*whole` bytes, of which at most `n` are put into
+ * `room`, with no 0 behind. (12 bytes for each element and 13 for each name and its bytes are enough.) Else `*whole` is 0, and nothing is
+ * put there. Refusals beside those of kv_check: 71, the kernel computes with `float`; 30 to 34, of the launch's text; 40, the first line of
+ * the conditions that the launch does not meet. KV_HELD counts for nothing. */
+uint32_t kv_run(const void *kernel, size_t kernel_n, const void *conditions, size_t conditions_n, const void *certificate,
+                size_t certificate_n, const void *launch, size_t launch_n, uint32_t options, char *room, size_t n, uint64_t *whole,
+                kv_answer *answer);
+
+/* kv_check and kv_meets in two steps, in C: kv_open is kv_check, and where that answers 0 it keeps a copy of kernel and conditions;
+ * kv_allows is kv_meets of these, and reads them anew each time. Of the options KV_BITS32 counts at kv_open, and KV_HELD at kv_allows.
+ * `handle` is written only where the answer is 0. A handle may be used by many threads at once, and is gone after kv_close. */
 typedef struct kv_kernel kv_kernel;
 uint32_t kv_open(const void *kernel, size_t kernel_n, const void *conditions, size_t conditions_n, const void *certificate,
                  size_t certificate_n, uint32_t options, kv_kernel **handle, kv_answer *answer);

@@ -77,6 +77,22 @@ inline void throw_if(const kv_answer &answer, const std::string &text) {
     if (answer.number != KV_OK) throw refused(answer, text);
 }
 
+// The text of the buffers with which a launch ends, by its text, run on the calling thread (kv_run). A room that is too small is told the
+// length, and the launch is run again.
+inline std::string run(const texts &t, std::string_view launch, uint32_t options = 0, size_t room = 1 << 16) {
+    kv_answer answer{};
+    uint64_t whole = 0;
+    std::string text(room ? room : 1, '\0');
+    for (;;) {
+        kv_run(data_of(t.kernel), t.kernel.size(), data_of(t.conditions), t.conditions.size(), data_of(t.certificate), t.certificate.size(),
+               data_of(launch), launch.size(), options, text.data(), text.size(), &whole, &answer);
+        throw_if(answer, "refused " + std::to_string(answer.number) + ", place " + std::to_string(answer.place));
+        bool is_whole = whole <= text.size();
+        text.resize(whole);
+        if (is_whole) return text;
+    }
+}
+
 // Sizes as clEnqueueNDRangeKernel gets them: one to three of each.
 inline kv_range range(std::initializer_list<uint64_t> global, std::initializer_list<uint64_t> local) {
     kv_range made{};

@@ -1,5 +1,6 @@
 #!/usr/bin/env python3
-"""Launches the examples of a folder on an OpenCL device, and compares what their buffers hold with what `kverify run` prints.
+"""Launches the examples of a folder on an OpenCL device, and compares what their buffers hold with what `kverify run` prints, and that with
+what the library's `run` gives.
 
 usage: examples.py FOLDER PROGRAM: of each NAME.launch the folder has the kernel, conditions and certificate, in the plain language.
 """
@@ -11,6 +12,7 @@ import sys
 import numpy
 import pyopencl
 
+import kverify
 import kverify.opencl
 
 TYPES = {"uint": numpy.uint32, "int": numpy.int32}
@@ -73,13 +75,19 @@ def run(program, stem):
     return subprocess.run(words, stdin=subprocess.DEVNULL, stdout=subprocess.PIPE, text=True, check=True).stdout.splitlines()
 
 
+def run_here(stem):
+    """What the library gives of it, in a room that is too small at first."""
+    texts = [text_of(f"{stem}.{it}") for it in ("cl", "conditions", "certificate", "launch")]
+    return kverify.run(*texts, room=10).decode().splitlines()
+
+
 def main(folder, program):
     context = pyopencl.Context([pyopencl.get_platforms()[0].get_devices()[0]])
     passed = failed = 0
     for path in sorted(glob.glob(f"{folder}/*.launch")):
         stem = path.removesuffix(".launch")
         on_device, wanted = launched(context, stem), run(program, stem)
-        is_right = on_device == wanted and bool(wanted)
+        is_right = on_device == wanted == run_here(stem) and bool(wanted)
         print(f"{'ok' if is_right else f'FAILED: {on_device} and {wanted}'}: {stem}")
         passed, failed = passed + is_right, failed + (not is_right)
     print(f"{passed} passed, {failed} failed")

@@ -174,6 +174,15 @@ void answers_of_numbers(trial &t) {
     expect(&t, is_refused(KV_ARGUMENTS, 0, [&] { guard.allow(kverify::range({64}, {64}), {}); }), "no arguments are 41");
 }
 
+void runs_here(trial &t) {
+    const kverify::texts guard{{KV_TEXT(guard)}, {KV_CONDITIONS(guard)}, {KV_CERTIFICATE(guard)}};
+    const std::string launch = "launch 1\ngroups 1 1 1\narg n 2\nbuffer a list 1 2 3\nfill 0\n", ends = "buffer a list 2 3 3\n";
+    expect(&t, kverify::run(guard, launch) == ends, "guard is run on the calling thread");
+    expect(&t, kverify::run(guard, launch, 0, 1) == ends, "and again where the room is too small");
+    const kv_answer unmet = refusal_of([&] { kverify::run(guard, "launch 1\ngroups 1 1 1\narg n 4\nbuffer a list 1 2 3\nfill 0\n"); });
+    expect(&t, unmet.number == KV_UNMET && unmet.place == 4, "a launch that does not meet a condition is not run");
+}
+
 void opens_nothing_else(trial &t) {
     const kverify::texts wrong{{KV_TEXT(guard)}, {KV_CONDITIONS(guard)}, {KV_CERTIFICATE(fill)}};
     try {
@@ -200,6 +209,7 @@ int main() {
         multiplies(t);
         smooths(t);
         answers_of_numbers(t);
+        runs_here(t);
         opens_nothing_else(t);
     } catch (const std::exception &error) {
         expect(&t, false, error.what());

@@ -77,6 +77,23 @@ static launch right_launch(void) {
     return made;
 }
 
+/* The same launch as a text, and the buffers with which it ends. */
+static const char RUN[] = "launch 1\ngroups 1 1 1\narg rows 3\narg width 4\narg places 5\nbuffer out fill 3 0\nbuffer begins list 0 2 2 5\n"
+                          "buffer columns list 0 3 1 2 3\nbuffer weights list 1 -2 3 4 5\nbuffer vector list 10 20 30 40\nfill 0\n";
+static const char ENDS[] = "buffer out list -70 0 380\nbuffer begins list 0 2 2 5\nbuffer columns list 0 3 1 2 3\n"
+                           "buffer weights list 1 -2 3 4 5\nbuffer vector list 10 20 30 40\n";
+
+/* What a run of csr_row is answered, whose text has so many bytes of these; 1000 where what is told beside is wrong. */
+static uint32_t run_of(const char *text, size_t text_n, uint64_t place) {
+    char room[200];
+    uint64_t whole = 7;
+    kv_answer answer;
+    uint32_t number = kv_run(KV_KERNEL(csr_row), text, text_n, 0, room, sizeof room, &whole, &answer);
+    if (number != answer.number) return 1000;
+    if (number) return whole == 0 && answer.place == place ? number : 1000;
+    return whole == sizeof ENDS - 1 && memcmp(room, ENDS, whole) == 0 ? 0 : 1000;
+}
+
 /* Threads. */
 
 typedef struct {
@@ -94,6 +111,7 @@ static void *all_calls(void *given) {
         w->wrong += kv_check(KV_KERNEL(csr_row), 0, &answer) != 0;
         w->wrong += kv_check(KV_TEXT(guard), KV_CONDITIONS(guard), KV_CERTIFICATE(csr_row), 0, &answer) != 52;
         w->wrong += kv_meets(KV_TEXT(csr_row), KV_CONDITIONS(csr_row), KV_HELD, &l.range, l.given, 8, &answer) != 0;
+        w->wrong += run_of(RUN, sizeof RUN - 1, 0) != 0;
     }
     return NULL;
 }
@@ -113,7 +131,7 @@ static void many_threads(tally *t) {
         pthread_join(threads[i], NULL);
         wrong += workers[i].wrong;
     }
-    expect(t, wrong == 0, "64 threads at once: each answer of 16,000 is right");
+    expect(t, wrong == 0, "64 threads at once: each answer of 19,200 is right");
     if (handle) kv_close(handle);
 }
 
@@ -157,6 +175,10 @@ static uint32_t explains(void) {
     return n == sizeof memory - 1 && memcmp(room, memory, n) == 0 ? KV_MEMORY : 1000;
 }
 
+static uint32_t runs(void) {
+    return run_of(RUN, sizeof RUN - 1, 0);
+}
+
 static void refuse_each(tally *t, call *calls, const char *name) {
     char what[120];
     long count, memory = 0, whole = 0, before = atomic_load(&not_freed);
@@ -184,6 +206,7 @@ static void refused_allocations(tally *t) {
     refuse_each(t, meets, "kv_meets");
     refuse_each(t, opens, "kv_open, kv_allows and kv_close");
     refuse_each(t, explains, "kv_explain");
+    refuse_each(t, runs, "kv_run");
 }
 
 /* Texts of no bytes, and of too many. */
@@ -237,6 +260,22 @@ static void odd_arguments(tally *t) {
     free(many);
 }
 
+/* Runs on the calling thread. */
+static void small_runs(tally *t) {
+    char changed[sizeof RUN], room[3] = "xyz";
+    uint64_t whole;
+    kv_answer a;
+    expect_answer(t, run_of(RUN, sizeof RUN - 1, 0), 0, "csr_row ends with these buffers");
+    expect_answer(t, run_of(RUN, 0, 1), 32, "a launch of no bytes is 32, at line 1");
+    memcpy(changed, RUN, sizeof RUN);
+    memcpy(strstr(changed, "begins list 0 2") + 14, "9", 1);
+    expect_answer(t, run_of(changed, sizeof RUN - 1, 11), KV_UNMET, "a buffer that does not hold what a `values` line says is 40");
+    expect_answer(t, kv_run(KV_KERNEL(csr_row), RUN, sizeof RUN - 1, 0, room, 2, &whole, &a), 0, "a room of two bytes is enough to run");
+    expect(t, whole == sizeof ENDS - 1 && memcmp(room, "buz", 3) == 0, "and two bytes are put there");
+    expect_answer(t, kv_run(KV_TEXT(guard), KV_CONDITIONS(guard), KV_CERTIFICATE(csr_row), RUN, sizeof RUN - 1, 0, room, 2, &whole, &a), 52,
+                  "a certificate of another kernel is 52");
+}
+
 /* The stack of a thread. */
 
 /* A kernel as deep as its grammar has it: blocks and loops, and brackets one inside another. */
@@ -261,12 +300,16 @@ typedef struct {
 
 static void *deep_calls(void *given) {
     deep_texts *d = (deep_texts *)given;
+    static const char deep_launch[] = "launch 1\ngroups 1 1 1\narg n 3\nbuffer a fill 64 0\nfill 0\n";
     launch l = right_launch();
     char room[100];
+    uint64_t whole;
     kv_answer a;
     d->answers = kv_check(d->kernel, d->kernel_n, d->conditions, d->conditions_n, d->certificate, d->certificate_n, 0, &a);
     kv_explain(d->kernel, d->kernel_n, d->conditions, d->conditions_n, d->certificate, d->certificate_n, 0, room, sizeof room);
     kv_meets(d->kernel, d->kernel_n, d->conditions, d->conditions_n, 0, &l.range, l.given, 2, &a);
+    kv_run(d->kernel, d->kernel_n, d->conditions, d->conditions_n, d->certificate, d->certificate_n, deep_launch, sizeof deep_launch - 1, 0,
+           room, sizeof room, &whole, &a);
     return NULL;
 }
 
@@ -313,6 +356,7 @@ int main(void) {
     refused_allocations(&t);
     long_texts(&t);
     odd_arguments(&t);
+    small_runs(&t);
     small_stack(&t);
     printf("%u passed, %u failed\n", t.passed, t.failed);
     return t.failed || !t.passed;

@@ -83,7 +83,7 @@ pub fn same_of(places: &[Lines], barrier: u32) -> &[u32]
     &[]
 }
 
-/// How a loop ends, where that is said.
+/// The ranking of the loop with a number; none where none is said.
 pub fn ranking_of(rankings: &[LoopBound], number: u32) -> Option<&Bound>
     ensures { MatchOption result (view.ranking_of rankings.now number ≡ view.no_ranking) (λ b. view.ranking_of rankings.now number ≡ view.ranking b.now) }
 {

@@ -13,7 +13,7 @@ use facts::{WalkError, less_number, number_less};
 use linear::Form;
 use std::alloc::Global;
 
-/// What a loop's ranking does in each turn: it falls by a step at least, or to a half at most, or doubles at least.
+/// The change of a loop's form in each turn: it falls by a step at least, or to a half at most, or doubles at least.
 #[derive(Clone, Copy, Drop)]
 pub enum Progress {
     Down { step: u64, most: i64 },

@@ -53,7 +53,7 @@ fn loop_form<D: Domain>(placing: &Placing<'_, D>, number: u32) -> Result<Form, W
 }
 
 #[tactic(auto, unfolding(crate::specs::View::placed))]
-/// What a loop's ranking is said to do; where nothing is said of the loop, to fall from at most 0.
+/// The change of a loop's form in each turn; where nothing is said of the loop, a fall from at most 0.
 fn progress_of<D: Domain>(placing: &Placing<'_, D>, number: u32) -> Progress
     ensures { bound result ≡ ((placed D.Domain placing.now).notes.ranking number).bound }
 {

@@ -1,4 +1,4 @@
-// Congruences, small ones and at the edges of `i64`.
+//! Tests of congruences: small moduli, and numbers at the edges of `i64`.
 
 use domain::congruence::Congruence;
 use domain::{Domain, Residue, linear};

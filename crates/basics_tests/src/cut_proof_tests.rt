@@ -1,4 +1,4 @@
-// A derivation with a division, and the same with a negative weight.
+//! Tests of `cut_proof`: a derivation that divides refutes two facts, and the same one with a negative weight does not.
 
 use cut_proof::{Derivation, Line, refutes};
 use linear::{Form, LinearError, Symbol};

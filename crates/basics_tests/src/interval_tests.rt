@@ -1,4 +1,4 @@
-// Intervals, small ones and at the edges of `i64`.
+//! Tests of intervals: small ranges, and ranges at the edges of `i64`.
 
 use domain::interval::Interval;
 use domain::{Bounds, Domain, Residue, linear};

@@ -1,4 +1,4 @@
-// Known bits, alone and beside a range and a remainder.
+//! Tests of the domain of known bits, alone and in a product with a range and a remainder.
 
 use domain::interval::Interval;
 use domain::known_bits::KnownBits;

@@ -1,4 +1,5 @@
-// Numbers at the edges, and words.
+//! Tests of `lines`: numbers at the edges of `i64`, and the words of a line.
+
 use lines::number::{NumberFault, integer, natural};
 use lines::pieces::Pieces;
 use std::test::Fail;

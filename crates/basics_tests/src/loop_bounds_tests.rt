@@ -1,4 +1,4 @@
-// Turns at their edges.
+//! Tests of `loop_bounds`: how often a loop turns at most, for steps, halvings and doublings at their edges.
 
 use linear::Form;
 use loop_bounds::{Bound, Least, Step, turns};

@@ -1,4 +1,4 @@
-// The product of intervals and congruences.
+//! Tests of the product of an interval and a congruence: each part sharpens the other.
 
 use domain::congruence::Congruence;
 use domain::interval::Interval;

@@ -1,4 +1,5 @@
-// Shifts by a word at the edges of both kinds, against the answers of a C compiler.
+//! Tests of shifts by a word, of `int` and of `uint`: counts 0 to 37 and below 0, against the answers of a C compiler.
+
 ghost use Rattle.std.specs.Prelude.{◌≡◌, true};
 ghost use Rattle.words.specs.View.{kind};
 ghost use Rattle.work_item.specs.Proper.{is_shift_kind};

@@ -1,5 +1,5 @@
-// Cores that are sound or not, and variables that may be read before they are set. A core has one value parameter, slot 0, two private
-// variables, slots 1 and 2, and one buffer.
+//! Tests of `sound_cores`: which cores are sound, and which variable may be read before it is set. Each core has one
+//! value parameter, slot 0, two private variables, slots 1 and 2, and one buffer.
 
 use core_code::tree::{Array, Core, Site, Space, Statement, Term};
 use sound_cores::sound::is_sound;

@@ -1,4 +1,5 @@
-// Each call at the edges of both kinds, against the answers of a C compiler.
+//! Tests of the operations on words, of `int` and of `uint`, at the edges of both, against the answers of a C compiler.
+
 ghost use Rattle.std.specs.Prelude.{◌≡◌};
 ghost use Rattle.words.specs.View.{kind_of};
 

@@ -7,7 +7,7 @@ use atomic_table::Table;
 use std::alloc::Global;
 use supports::Supports;
 
-/// Which candidates of a table of supports are left.
+/// The state of a search for the greatest standing set: which candidates of a table of supports are left.
 #[derive(Drop)]
 pub struct Board {
     pub(crate) supports: Supports,

@@ -6,7 +6,7 @@ use std::alloc::AllocError;
 use supports::SupportError;
 use thiserror::Error;
 
-/// Why a board was not opened.
+/// The reasons for which no board is opened.
 #[derive(Debug, Drop, Error)]
 pub enum BoardError {
     #[error("90")]

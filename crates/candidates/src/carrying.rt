@@ -6,7 +6,7 @@ use guesses::{Leaf, Sight, one_of, variable};
 use linear::Form;
 use std::alloc::AllocError;
 
-/// How often all paths are gone along.
+/// The number of passes over all paths.
 const PASSES: u32 = 3;
 
 /// The rank of what is carried on.

@@ -8,13 +8,13 @@ use guesses::{
 use linear::Form;
 use std::alloc::{AllocError, Global};
 
-/// How many forms by which a variable steps are looked at.
+/// The most forms, by which a variable steps, that are looked at.
 const FORMS: usize = 2;
 
-/// How many terms such a form has, at most.
+/// The most terms that such a form has.
 const TERMS: usize = 2;
 
-/// How many values that a variable begins with are looked at.
+/// The most values, with which a variable begins, that are looked at.
 const STARTS: usize = 4;
 
 /// The values that a variable begins with, over ids and arguments, the numbers, not 0, by which it steps, and the forms.
@@ -22,7 +22,7 @@ const STARTS: usize = 4;
 pub struct Course {
     pub starts: Vec<Form>,
     pub strides: Vec<i64>,
-    /// What is no one number by which it steps, over symbols of the launch.
+    /// Steps that are no single number, as forms over symbols of the launch.
     pub by_forms: Vec<Form>,
 }
 

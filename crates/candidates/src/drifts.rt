@@ -13,7 +13,7 @@ use std::alloc::{AllocError, Global};
 /// The rank of the candidates that this file tells.
 const DRIFTED: u32 = 3;
 
-/// How many candidates are looked at.
+/// The most candidates that are looked at.
 const LOOKED_AT: usize = 500;
 
 /// The one number, perhaps 0, by which a symbol steps in each turn.

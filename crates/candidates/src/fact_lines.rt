@@ -7,13 +7,13 @@ use guesses::{
 use linear::{Form, Symbol};
 use std::alloc::{AllocError, Global};
 
-/// How many terms a fact may have.
+/// The most terms that a fact may have.
 const TERMS: usize = 6;
 
-/// How large a coefficient may be.
+/// The largest coefficient, 2^40.
 const COEFFICIENT: u64 = 1_099_511_627_776;
 
-/// How large a constant may be.
+/// The largest constant, 2^45.
 const CONSTANT: u64 = 35_184_372_088_832;
 
 /// The last rank of what paths tell.

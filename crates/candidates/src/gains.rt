@@ -9,7 +9,7 @@ use guesses::{Leaf, Sight, is_same, one_of, try_difference, try_sum, variable};
 use linear::Form;
 use std::alloc::{AllocError, Global};
 
-/// How many variables of a loop are looked at.
+/// The most variables of a loop that are looked at.
 const MOST: usize = 8;
 
 /// The ways of a variable from what it begins with.

@@ -12,8 +12,8 @@ use guesses::{Leaf, Sight, one_of, variable};
 use linear::Form;
 use std::alloc::{AllocError, Global};
 
-/// How far a counter has gone, from the first values that it begins with; where these have no name, as where it begins with what is loaded,
-/// no further than from 0.
+/// The distances that a counter has gone, one from each first value that it begins with. Where these have no name, as
+/// where it begins with what is loaded, the distance is taken from 0.
 fn counts_of(
     alloc: Global,
     sight: &Sight,
@@ -27,7 +27,7 @@ fn counts_of(
     Ok(counts)
 }
 
-/// How far a variable goes from what it began with.
+/// Tells bounds of the distance of a variable from each value that it began with, by the turns so far.
 fn tell_slot(
     told: &mut Gathering<'_>,
     turns: Turns<'_>,
@@ -51,7 +51,7 @@ fn tell_slot(
     Ok(())
 }
 
-/// How far the variables of a place go.
+/// Tells bounds of the distance of each variable of a place from what it began with.
 fn tell_place(
     told: &mut Gathering<'_>,
     turns: Turns<'_>,
@@ -66,7 +66,7 @@ fn tell_place(
     Ok(())
 }
 
-/// How far variables go, of all places.
+/// Tells bounds of the distance of variables from what they began with, for all places.
 pub fn tell_growth(
     told: &mut Gathering<'_>,
     courses: &Courses,

@@ -8,8 +8,8 @@ use guesses::{
 use linear::{Form, Symbol, Term};
 use std::alloc::{AllocError, Global};
 
-/// Which names are left out: none, those that come from a symbol (a variable, an `@x` or a `$K` of the place reached) or hold it, or those
-/// of variables at the anchor.
+/// The names that are left out: none, those that come from a symbol (a variable, an `@x` or a `$K` of the place
+/// reached) or hold it, or those of variables at the anchor.
 #[derive(Clone, Copy)]
 pub enum Except {
     Nothing,
@@ -153,7 +153,7 @@ impl Names {
             .find(|name| name.factor == 1 && name.is_without(except))
     }
 
-    /// How many symbols of the form have no name.
+    /// The number of symbols of the form without a name.
     pub fn count_unnamed(&self, form: &Form) -> usize {
         form.terms()
             .iter()

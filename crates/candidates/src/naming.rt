@@ -10,7 +10,7 @@ use guesses::{
 use linear::{Form, Symbol, Term};
 use std::alloc::{AllocError, Global};
 
-/// How many kinds of names there are, the best first.
+/// The number of kinds of names, of which the first is the best.
 const KINDS: u32 = 4;
 
 /// A variable, an `@x` or a `$K` of the place that is reached, and its value over the symbols of the path.
@@ -203,7 +203,7 @@ fn named_plainly(value: &Value, kind: u32) -> Option<Term> {
     Some(*term)
 }
 
-/// How good a name such a value gives: 0 is the best.
+/// The kind of name that such a value gives: 0 is the best.
 fn kind_of(value: &Value, term: Term) -> u32 {
     let is_alone = term.coefficient == 1 && value.form.constant_part() == 0;
     if is_alone && term.symbol == value.owner {

@@ -17,7 +17,7 @@ struct Nest<'a> {
     inner: Turns<'a>,
     outer_counter: Counter,
     inner_counter: Counter,
-    /// How many turns the inner loop has at most.
+    /// The most turns of the inner loop.
     trips: i64,
 }
 
@@ -53,7 +53,7 @@ fn first_number(courses: &Courses, slot: u32) -> Option<i64> {
     None
 }
 
-/// How many turns a loop has at most, by what single facts say of its counter.
+/// The most turns of a loop by single facts about its counter; none where they bound it by no number.
 fn trips_of(
     alloc: Global,
     turns: Turns<'_>,
@@ -149,7 +149,7 @@ fn size_of_both(nest: Nest<'_>) -> Option<i64> {
     outer.checked_abs()?.checked_mul(inner.checked_abs()?)
 }
 
-/// How far a variable goes in two loops, from one of the values that it begins with.
+/// Tells bounds of the distance that a variable goes in two loops, from one value that it begins with.
 fn tell_way_in_nest(
     told: &mut Gathering<'_>,
     nest: Nest<'_>,
@@ -181,7 +181,7 @@ fn reach_in_nest(alloc: Global, nest: Nest<'_>, slot: u32) -> Result<Option<Reac
     }
 }
 
-/// How far a variable goes in two loops.
+/// Tells bounds of the distance that a variable goes in two loops, from each value that it begins with.
 fn tell_slot_in_nest(
     told: &mut Gathering<'_>,
     nest: Nest<'_>,
@@ -204,7 +204,7 @@ fn tell_slot_in_nest(
     Ok(())
 }
 
-/// How far variables go in two loops.
+/// Tells bounds of the distances that variables go in two loops, one in the other.
 pub fn tell_nest(
     told: &mut Gathering<'_>,
     courses: &Courses,

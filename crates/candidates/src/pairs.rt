@@ -7,7 +7,7 @@ use guesses::{divisor_of, try_multiple};
 use linear::{Form, Symbol, Term};
 use std::alloc::{AllocError, Global};
 
-/// How many sums are made at most.
+/// The most sums that are made.
 const MOST_SUMS: usize = 60;
 
 /// The greatest `int`: a bound as wide as that says only of what kind a symbol is.
@@ -110,7 +110,7 @@ fn sum_without(alloc: Global, lower: &Lone, upper: &Lone) -> Result<Option<Form>
     plus_times(alloc, &sum, &upper.fact, second)
 }
 
-/// How often each of two facts is taken, so that coefficients of two signs cancel.
+/// The multiples of two facts at which two coefficients of opposite signs cancel.
 fn times_of(lower: i64, upper: i64) -> Option<(i64, i64)> {
     let opposite = upper.checked_neg()?;
     let divisor = divisor_of(lower.unsigned_abs(), upper.unsigned_abs());

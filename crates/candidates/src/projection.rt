@@ -7,10 +7,10 @@ use guesses::{divisor_of, is_global, try_multiple};
 use linear::{Form, Term};
 use std::alloc::{AllocError, Global};
 
-/// How often a fact is taken at most.
+/// The largest multiple of a fact that is taken.
 const MOST_TIMES: i64 = 65_536;
 
-/// How many values are taken away in turn.
+/// The most values that are taken away one after another.
 const DEPTH: u32 = 2;
 
 /// A fact as the sum of a form over the symbols of the path and one over those of the place reached.
@@ -143,7 +143,7 @@ impl Naming {
     }
 }
 
-/// How often a form has the term.
+/// The multiple of a form at which it has the term; none where that is no whole number.
 fn times_in(term: Term, form: &Form) -> Option<i64> {
     let coefficient = form.coefficient(term.symbol);
     if term.coefficient.checked_rem(coefficient)? == 0 {

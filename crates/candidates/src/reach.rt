@@ -4,7 +4,7 @@ use guesses::{common_divisor, one_of, plus, try_difference, try_sum};
 use linear::Form;
 use std::alloc::{AllocError, Global};
 
-/// How far steps may be apart that are told of.
+/// The largest distance of two steps that is told.
 const MOST: i64 = 0x8000_0000;
 
 /// The least and the greatest value of a form.

@@ -7,7 +7,7 @@ use std::alloc::{AllocError, Global};
 /// The most candidates on a shelf.
 const MOST: usize = 3_000;
 
-/// How many of them paths may tell, so that some room is left for strides.
+/// The most candidates that paths may tell, so that some room is left for strides.
 const MOST_OF_PATHS: usize = 2_500;
 
 /// The number of lists in which repeats are looked for.
@@ -50,7 +50,7 @@ fn number_key(number: Option<u32>) -> u64 {
     }
 }
 
-/// Which list a candidate and all that are like it stand in.
+/// The number of the list of a candidate and all that are like it.
 fn bucket_of(candidate: &Candidate) -> usize {
     let key = mixed(line_key(&candidate.line), number_key(candidate.anchor));
     (mixed(key, number_key(candidate.head)) % BUCKETS) as usize

@@ -8,16 +8,16 @@ use guesses::{Leaf, has_product, is_same, plus, try_product};
 use linear::Form;
 use std::alloc::{AllocError, Global};
 
-/// How many facts of the ways to one place are looked at.
+/// The most facts of the ways to one place that are looked at.
 const FACTS: usize = 128;
 
-/// How many differences are told, at most.
+/// The most differences that are told.
 const MOST: usize = 16;
 
-/// How many terms a difference has, at most.
+/// The most terms that a difference has.
 const TERMS: usize = 3;
 
-/// How often differences are carried on along all paths.
+/// The number of passes over all paths that carry differences on.
 const PASSES: u32 = 2;
 
 /// A form that is not 0 at a place.

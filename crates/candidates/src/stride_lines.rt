@@ -8,13 +8,13 @@ use guesses::{Line, Sight, copied, one_of, try_difference, try_multiple, variabl
 use linear::Form;
 use std::alloc::{AllocError, Global};
 
-/// How many values that variables begin with are tried where two step together.
+/// The most values, with which variables begin, that are tried where two step together.
 const STARTS: usize = 2;
 
 /// The rank of what strides tell.
 const STRIDE: u32 = 1;
 
-/// How far a variable is from what it began with, if the place has the symbols of that.
+/// The distance of a variable from what it began with; none where the place lacks a symbol of that.
 fn way_of(
     alloc: Global,
     sight: &Sight,

@@ -54,9 +54,9 @@ fn tell_leaves(
     Ok(courses)
 }
 
-/// The candidates of ranks 0 to 3, and of wide walks those that are tried last, each once, that the ends of all paths tell of a walk which takes each claim as shown, and by how much
-/// variables step. What is known of each launch and item is not said again; variables are `uint` by their slots. Multiples of forms are
-/// told of wide walks alone.
+/// The candidates of ranks 0 to 3, and of wide walks those that are tried last, each once, that the ends of all paths
+/// tell of a walk which takes each claim as shown, and by how much variables step. What is known of each launch and
+/// item is not said again; variables are `uint` by their slots. Multiples of forms are told of wide walks alone.
 pub fn guess_told(
     alloc: Global,
     sights: &[Sight],

@@ -13,7 +13,7 @@ const TOLD: u32 = 1;
 
 const WEAKENED: u32 = 3;
 
-/// How many candidates are looked at.
+/// The most candidates that are looked at.
 const LOOKED_AT: usize = 500;
 
 /// A variable's value at the end of a path.

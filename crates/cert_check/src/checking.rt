@@ -217,10 +217,10 @@ pub fn check(
     check_as(alloc, narrow(kernel), conditions, certificate, false)
 }
 
-/// As `check`, of conditions of versions 2 and 3 and of certificates of version 4, too: these are wide, and with them the check knows more of
-/// a kernel. What is accepted is pair-safe in the runs whose loads are answered by what the conditions let buffers hold; where no line says
-/// what they hold it is pair-safe as ever. Of conditions of version 1 and a certificate of version 1 or 2 the answer holds as that of
-/// `check`.
+/// As `check`, of conditions of versions 2 and 3 and of certificates of version 4, too: these are wide, and with them
+/// the check knows more of a kernel. What is accepted is pair-safe in the runs whose loads are answered by what the
+/// conditions let buffers hold; where no line says what they hold it is pair-safe as ever. Of conditions of version 1
+/// and a certificate of version 1 or 2 the answer holds as that of `check`.
 pub fn check_wide(
     alloc: Global,
     kernel: &[u8],

@@ -11,7 +11,7 @@ use kernel_reading::KernelError;
 use launch_text::error::LaunchTextError;
 use thiserror::Error;
 
-/// Why a kernel is refused, or want of memory.
+/// The reasons for which a kernel is refused, and want of memory.
 #[derive(Debug, Drop, Error)]
 pub enum CheckError {
     #[error("{0}")]

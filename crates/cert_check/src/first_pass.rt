@@ -114,7 +114,7 @@ fn go_over(
     Ok(())
 }
 
-/// What all entries tell, with what stands before them.
+/// Goes over the entries of a certificate once, and gathers their notes and flags behind those of its front.
 fn told_by(
     alloc: Global,
     names: &Names<'_>,
@@ -136,7 +136,8 @@ fn told_by(
     })
 }
 
-/// What the text of a certificate tells of a kernel, or its first fault. The text is gone through once, to its end.
+/// Reads the text of a certificate once, to its end, and answers what it tells of a kernel. An error is the text's
+/// first fault, or want of memory.
 pub(crate) fn tell(
     alloc: Global,
     typed: &Typed,

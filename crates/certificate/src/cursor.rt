@@ -20,7 +20,8 @@ use crate::reader::add_line;
 use lines::pieces::Pieces;
 use std::alloc::Global;
 
-/// What was read of an entry, the number of the next line, and the lines that are left. No entry is settled.
+/// A reader within an entry: the parts that were read of it, the number of the next line, and the lines that are left.
+/// No entry is settled.
 #[derive(Drop)]
 pub struct Cursor<'a> {
     pub draft: NumberedDraft,

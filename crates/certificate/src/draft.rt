@@ -187,7 +187,7 @@ fn add_to_lemma(alloc: Global, entry: Entry, lemma: Lemma, item: Item) -> Result
     }
 }
 
-/// What is open, with one more line.
+/// Adds a line to the item that is open. It is bad where nothing is open.
 fn add_to(alloc: Global, opened: Open, item: Item) -> Result<Open, LineError>
     ensures { Means drafts.opened result (drafting.add_to (drafts.opened opened) (items.item item)) }
 {

@@ -155,7 +155,7 @@ impl<'a> Entries<'a> {
         self.front.bounds.as_slice()
     }
 
-    /// What stands before the entries.
+    /// The front of the certificate, which stands before its entries.
     fn before(self) -> Parts
         ensures { parts result ≡ front self.entry }
     {

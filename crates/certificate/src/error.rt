@@ -6,7 +6,7 @@ use std::alloc::{AllocError, AllocFailed};
 use std::fmt::{self, Display, Formatter, Write};
 use thiserror::Error;
 
-/// Why a text is no certificate.
+/// The faults for which a text is no certificate.
 #[derive(Clone, Copy, Debug)]
 pub enum CertFault {
     /// A line that says nothing, counted from 1.

@@ -48,7 +48,7 @@ impl FormTable {
         }
     }
 
-    /// How many forms the table has.
+    /// The number of forms in the table.
     pub fn len(&self) -> usize
         ensures count { result ≡ length (table self.now) }
         ensures small { result < 2 ^ 63 }

@@ -37,7 +37,8 @@ pub struct Term {
     pub name: Name,
 }
 
-/// The terms of a form. Copies of the form share them: a line that names a form of the table takes a few bytes, however many terms that has.
+/// The terms of a form. Copies of the form share them: a line that names a form of the table takes a few bytes, however
+/// many terms that has.
 #[derive(Drop)]
 pub struct SharedTerms {
     pub(crate) shared: Arc<Vec<Term>>,
@@ -47,7 +48,7 @@ impl SharedTerms {
     ghost use Rattle.std.specs.Prelude.{◌≡◌, IfOk};
     ghost use Rattle.std.specs.Arc.{arc_value};
 
-    /// These terms.
+    /// Makes a list of terms one that copies share. The error is want of memory.
     pub fn of(alloc: Global, terms: Vec<Term>) -> Result<SharedTerms, AllocError>
         ensures { IfOk result (λ t. (arc_value t.shared).items ≡ terms.items) }
     {
@@ -118,7 +119,8 @@ pub struct Place {
     pub multiples: Vec<Multiple>,
 }
 
-/// What each turn of a loop makes of its form: less by a step at least, at most half, or, from that number on, at least twice as large.
+/// The change of a loop's form in each turn: it falls by a step at least, or to a half at most, or, from the number on,
+/// doubles at least.
 #[derive(Clone, Copy, PartialEq, Eq, Drop)]
 pub enum Descent {
     Down(u64),
@@ -126,7 +128,8 @@ pub enum Descent {
     Double(u64),
 }
 
-/// How a loop ends: its form is at most `most` where it opens, or, where it doubles, where its test is true.
+/// A loop's ranking: the loop's number, the form, its change in each turn, and the most that the form is where the loop
+/// opens, or, where it doubles, where the loop's test is true.
 #[derive(Drop)]
 pub struct Bound {
     pub number: u64,

@@ -5,7 +5,7 @@ ghost use Rattle.std.specs.Prelude.{◌≡◌};
 use std::alloc::{AllocError, AllocFailed};
 use thiserror::Error;
 
-/// Why it was not told what a certificate says.
+/// The reasons for which a certificate has no notes.
 #[derive(Error, Debug, Drop)]
 pub enum NamesError {
     #[error("90")]

@@ -21,8 +21,8 @@ use obligations::{Lines, Notes};
 use places::Place;
 use std::alloc::Global;
 
-/// What stands before the entries of a certificate: whether it is wide, whether the walk joins ways, what it says of places, and how loops
-/// end.
+/// The front of a certificate, which stands before its entries: whether it is wide, whether the walk joins ways, its
+/// notes on places, and the rankings of loops.
 #[derive(Clone, Copy)]
 pub struct Front<'a> {
     pub is_wide: bool,

@@ -52,7 +52,7 @@ fn note_entry(
 }
 
 impl Gathering {
-    /// What stands before the entries of a certificate, of which none is taken.
+    /// Takes in the front of a certificate. No entry is taken.
     pub fn begin(
         alloc: Global,
         names: &Names<'_>,

@@ -31,7 +31,7 @@ fn least_of(number: u64) -> Option<Least>
     Least::new(number as i64)
 }
 
-/// How a loop of that number ends, by a form of its own.
+/// The ranking of the loop of a number, by a form over the kernel's symbols; none where its numbers make no ranking.
 fn ranked(number: u32, form: Form, descent: Descent, most: i64) -> Option<LoopBound>
     ensures { option_map ranked_seen result ≡ noted.ranked number (Some (form_seen form)) (noted.bound_of (view.descent descent) most) }
 {
@@ -61,7 +61,7 @@ fn ranked(number: u32, form: Form, descent: Descent, most: i64) -> Option<LoopBo
     }
 }
 
-/// How a loop ends, where the kernel has it and all that is named there.
+/// The ranking of a loop; none where the kernel lacks the loop or something that is named there.
 fn ranked_of(
     alloc: Global,
     chart: &Chart<'_>,

@@ -112,8 +112,8 @@ fn push_visible<'a>(
     Ok(())
 }
 
-/// What is visible in the statement of a number: value parameters that something assigns, and private variables, of which the first has
-/// the slot.
+/// The names that are visible in the statement of a number: value parameters that something assigns, and private
+/// variables, of which the first has the slot.
 fn visible_at<'a>(
     alloc: Global,
     number: u32,

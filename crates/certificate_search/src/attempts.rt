@@ -21,7 +21,8 @@ use std::thread::Threads;
 use text_guesses::guess_plainly;
 use walk::FindError;
 
-/// How often guesses are settled: those that fell with others, and those for which there was no room, up to eleven times more.
+/// The most times that guesses are settled: those that fell with others, and those for which there was no room, are
+/// tried up to eleven times more.
 const CHANCES: u32 = 12;
 
 /// In how many rounds guesses that are settled once more do not fall with others.
@@ -30,16 +31,17 @@ const PATIENCE: u32 = 60;
 /// The rank of an attempt with the least menu alone, behind those of all guesses but the ones that are tried last.
 pub const LEAST_MENU: u32 = 5;
 
-/// How an attempt ends: with a certificate, or with loops whose rankings are not shown, and what is not: all of it, or the claims and the
-/// pairs of ends alone.
+/// The result of an attempt: a certificate; or loops whose rankings are not shown, and what is not shown, all of it, or
+/// the claims and the pairs of ends alone.
 #[derive(Drop)]
 pub enum Attempt {
     Made(Certificate),
     Failed(Failure),
 }
 
-/// What an attempt does not show: the loops whose rankings are among it, what is not shown of all that was looked at, whether this was
-/// everything, pairs of accesses too; and whether there were guesses that were never tried, for want of room.
+/// The obligations that an attempt does not show: the loops whose rankings are among them, all that were found, whether
+/// everything was looked at, pairs of accesses too; and whether there were guesses that were never tried, for want of
+/// room.
 #[derive(Drop)]
 pub struct Failure {
     pub loops: Vec<u32>,
@@ -181,7 +183,7 @@ fn written<R: Threads + Sync, W: Watcher>(
     }
 }
 
-/// How guesses that stand are put together: to a certificate, or with what they do not show.
+/// The result of putting guesses that stand together: a certificate, or the obligations that they do not show.
 #[derive(Drop)]
 enum Conclusion {
     Made(Certificate),
@@ -374,8 +376,8 @@ fn settled<R: Threads + Sync, W: Watcher>(
     Err(SearchError::Unsaid)
 }
 
-/// How an attempt is made: its number, from 1, with which rankings, with guesses up to which rank, and the fewest claims and pairs of ends
-/// that an attempt so far did not show.
+/// The settings of an attempt: its number, from 1, its rankings, the highest rank of its guesses, and the fewest claims
+/// and pairs of ends that an attempt so far did not show.
 #[derive(Clone, Copy)]
 pub struct Trial<'a> {
     pub number: u32,

@@ -21,7 +21,7 @@ use std::alloc::{AllocError, Global};
 use two_thread::{Manner, OnPath, Part};
 use walk::FindError;
 
-/// How an obligation is shown: as it is, by the sign of a divisor, or by a quotient.
+/// The way in which an obligation is shown: as it is, by the sign of a divisor, or by a quotient.
 #[derive(Drop)]
 pub enum Way {
     Plainly,
@@ -30,8 +30,8 @@ pub enum Way {
     ByQuotient(Form),
 }
 
-/// What shows an obligation, in symbols of the walk: its number and what it is of, how it is shown, by which derivation, the guess that it
-/// is of, if it is of one, and the guesses that the derivation uses.
+/// A proof of an obligation, in symbols of the walk: the obligation's number and its subject, the way in which it is
+/// shown, the derivation, the guess that it is of, if it is of one, and the guesses that the derivation uses.
 #[derive(Drop)]
 pub struct Proof {
     number: u64,
@@ -43,7 +43,7 @@ pub struct Proof {
 }
 
 impl Proof {
-    /// How the obligation is shown, as an entry has it; none where the quotient has no text.
+    /// The way in which the obligation is shown, as an entry has it; none where the quotient has no text.
     fn sort(&self, alloc: Global, names: &Names<'_>) -> Result<Option<EntrySort>, AllocError> {
         match &self.way {
             Way::Plainly => Ok(Some(EntrySort::Show)),
@@ -74,7 +74,8 @@ impl Proof {
     }
 }
 
-/// What was found for an obligation: that nothing is needed, one proof, the two of a congruence, or none though one is needed.
+/// The outcome of the search for an obligation: nothing is needed, one proof, the two of a congruence, or none though
+/// one is needed.
 #[derive(Drop)]
 pub enum Outcome {
     Nothing,

@@ -50,8 +50,8 @@ impl From<SettlingError> for SearchError {
     }
 }
 
-/// Why there is no table of what guesses rest on: a loop with a barrier can miss it, told by the loop's number; guesses have no text, or
-/// are more than 512; or the walk of a kernel's places comes to no end that can be listed.
+/// The reasons for which there is no table of supports: a loop with a barrier can miss it, told by the loop's number;
+/// guesses have no text, or are more than 512; or the walk of a kernel's places comes to no end that can be listed.
 #[derive(Debug, Drop, Error)]
 pub enum TableError {
     #[error("55 {0}")]

@@ -15,8 +15,8 @@ const FEW: usize = 128;
 /// Where there are more, ways are joined where that leaves one path of so many.
 const TIMES: usize = 4;
 
-/// How the wide walk is made: with forks, and with ways that are joined where forks are too many; with ways that are joined alone; or by
-/// these first, and by forks where that fails.
+/// The order of wide walks: with forks, and with ways that are joined where forks are too many; with ways that are
+/// joined alone; or by these first, and by forks where that fails.
 #[derive(Clone, Copy, PartialEq, Eq)]
 pub enum Order {
     Forked,
@@ -50,7 +50,7 @@ fn paths_of<R: Threads + Sync>(
     }
 }
 
-/// How the wide walk is made, by the numbers of paths without ways that are joined, and with them.
+/// The order of wide walks, by the numbers of paths without ways that are joined, and with them.
 fn order_by(forked: Option<usize>, joined: Option<usize>) -> Order {
     match (forked, joined) {
         (_, None) => Order::Forked,
@@ -65,7 +65,7 @@ fn order_by(forked: Option<usize>, joined: Option<usize>) -> Order {
     }
 }
 
-/// How the wide walk is made. An error is want of memory.
+/// The order of wide walks for a kernel. An error is want of memory.
 pub fn order_of<R: Threads + Sync>(
     rt: &R,
     alloc: Global,

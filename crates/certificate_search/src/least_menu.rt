@@ -25,7 +25,7 @@ use supports::Supports;
 use text_guesses::{guess_plainly, guess_rankings};
 use typed_kernels::Typed;
 
-/// How many workers ask what guesses rest on, at most.
+/// The most workers that ask on which guesses others rest.
 const WORKERS: u32 = 64;
 
 /// The guesses of the least menu that may be said in a certificate, for places and loops with these rankings: as many as a board has.

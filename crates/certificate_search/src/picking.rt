@@ -7,7 +7,7 @@ use linear::Form;
 use solo_runs::Observed;
 use std::alloc::{AllocError, Global};
 
-/// How many guesses a board has.
+/// The most guesses of a board.
 pub const MOST: usize = 512;
 
 /// The highest rank of a guess.
@@ -91,7 +91,7 @@ pub struct Picked {
     pub later: Vec<Candidate>,
 }
 
-/// Which of them are picked, rank by rank, where there is room for so many.
+/// For each candidate, whether it is picked: rank by rank, as long as there is room.
 fn picked_of(
     alloc: Global,
     candidates: &[Candidate],

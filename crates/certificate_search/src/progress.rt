@@ -1,6 +1,7 @@
 //! How far a search is, told to whoever watches it.
 
-/// How far a search is: which attempt it makes and which round of it, counted from 1, and how many obligations are left to be looked at.
+/// The progress of a search: the number of its attempt and of the round of that, each from 1, and the number of
+/// obligations that are left to be looked at.
 #[derive(Clone, Copy)]
 pub struct Progress {
     pub attempt: u32,
@@ -17,7 +18,7 @@ pub trait Watcher {
     fn end(&self);
 }
 
-/// Nobody watches.
+/// A watcher that ignores what it is told.
 #[derive(Clone, Copy)]
 pub struct Unwatched;
 

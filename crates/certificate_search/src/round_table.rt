@@ -55,7 +55,7 @@ pub fn supports_of(
     }
 }
 
-/// Why the board was not settled.
+/// The reasons for which a board is not settled.
 #[derive(Clone, Copy)]
 pub enum BoardError {
     Workers,

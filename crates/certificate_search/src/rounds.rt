@@ -24,7 +24,7 @@ pub struct Settled {
     pub lost: Vec<Candidate>,
 }
 
-/// Why nothing was settled.
+/// The reasons for which nothing is settled.
 #[derive(Drop)]
 pub enum SettlingError {
     /// The guesses have no text, or there are too many of them.
@@ -108,7 +108,7 @@ struct Parted {
     lost: Vec<Candidate>,
 }
 
-/// Which of so many guesses have an obligation that nothing shows.
+/// For each of so many guesses, whether it has an obligation that nothing shows.
 fn lacking_of(alloc: Global, count: usize, demands: &[Demand]) -> Result<Vec<bool>, AllocError> {
     let mut flags = vec![in alloc; false; count]?;
     for demand in demands {
@@ -225,7 +225,7 @@ fn left_of<R: Threads + Sync>(
     Ok(greatest(rt, alloc, count, demands, workers)?)
 }
 
-/// How a round ends: with all guesses, or with some of them.
+/// The result of a round: all guesses stand, or some of them are left.
 #[derive(Drop)]
 enum Turn {
     Stands(Vec<Candidate>, Walked),

@@ -12,10 +12,10 @@ pub struct Stretch {
     pub end: usize,
 }
 
-/// How many pairs a stretch has at most.
+/// The most pairs of a stretch.
 const PAIRS: usize = 64;
 
-/// How many stretches a batch has at most.
+/// The most stretches of a batch.
 const BATCH: usize = 16;
 
 /// The path of a claim; none of a pair.
@@ -56,7 +56,7 @@ pub fn stretches_behind(
     Ok(all)
 }
 
-/// How many obligations are left where a batch begins.
+/// The number of obligations that are left where a batch begins.
 pub fn left_behind(found: &Obligations<Elements>, batch: &[Stretch]) -> usize {
     match batch.first() {
         Some(first) => found.len().saturating_sub(first.first),
@@ -85,7 +85,7 @@ impl BatchSizes {
     }
 }
 
-/// How many stretches of a batch one worker takes at least, so that no more than so many are at work at once.
+/// The fewest stretches of a batch that one worker takes, so that no more than so many are at work at once.
 pub fn least_piece(count: usize, workers: u32) -> usize {
     let workers = (workers as usize).max(1);
     let more = count.saturating_add(workers).saturating_sub(1);

@@ -88,7 +88,7 @@ pub fn any_version_is_read()
     ensures other { (text : List ℕ) → certificate_in text ≡ Err OtherVersion → certificate_any text ≡ certificate_of_four text }
 {}
 
-/// What texts of version 2 say, and the line at which they are at fault.
+/// Texts of version 2, by example: the certificate of each, or the line of its fault.
 pub fn texts_of_two_are_read()
     ensures says { certificate_of_two (codes "certificate 2\nform -1*lid + 1*local.0 + 0\nform 1*lid + -1*local.0 + 0\nplace b3\nfact 1\nfact 2\nend\n") ≡ certificate_of (codes "certificate 1\nplace b3\nfact -1*lid + 1*local.0 + 0\nfact 1*lid + -1*local.0 + 0\nend\n") }
     ensures exchanged { certificate_of_two (codes "certificate 2\nform -1*lid + 1*local.0 + 0\nform 1*lid + -1*local.0 + 0\nplace b3\nfact 2\nfact 1\nend\n") ≡ Err (BadLine 5) }
@@ -104,7 +104,7 @@ pub fn texts_of_two_are_read()
     ensures shared { certificate_of_two (codes "certificate 2\nform 1*n + -1\nplace b3\nfact 1\nloop 3 down 1 64 1\nob 2 quot 1\ng 0\nend\n") ≡ certificate_of (codes "certificate 1\nplace b3\nfact 1*n + -1\nloop 3 down 1 64 1*n + -1\nob 2 quot 1*n + -1\ng 0\nend\n") }
 {}
 
-/// What texts of version 4 say, and that their lines are none of other versions.
+/// Texts of version 4, by example. Their lines are none of other versions.
 pub fn texts_of_four_are_read()
     ensures doubled { certificate_of_four (codes "certificate 4\nform 1*n + -1\nloop 3 double 2 64 1\nend\n") ≡ Ok (wide_certificate false [] (record { loop = 3; descent = Double 2; most = pos 64; form = form (weighted (pos 1) (Variable (codes "n")) ∷ []) (negsuc 0) } ∷ []) []) }
     ensures any { certificate_any (codes "certificate 4\nform 1*n + -1\nloop 3 double 2 64 1\nend\n") ≡ certificate_of_four (codes "certificate 4\nform 1*n + -1\nloop 3 double 2 64 1\nend\n") }
@@ -117,7 +117,8 @@ pub fn texts_of_four_are_read()
     ensures five { certificate_any (codes "certificate 5\nplace b3\nsame x\nend\n") ≡ Err OtherVersion }
 {}
 
-/// What texts of version 4 say of products, of the second item's symbols and of multiples, and that other versions have none of them.
+/// Texts of version 4 with products, the second item's symbols and multiples, by example. Other versions have none of
+/// them.
 pub fn texts_with_products_are_read()
     ensures product { certificate_of_four (codes "certificate 4\nform 1*x*y + 0\nplace b3\nfact 1\nend\n") ≡ Ok (wide_certificate false (record { spot = record { anchor = Barrier 3; head = None }; same = []; facts = form (weighted (pos 1) (Product (Variable (codes "x")) (Variable (codes "y"))) ∷ []) (pos 0) ∷ []; congruences = []; multiples = [] } ∷ []) [] []) }
     ensures three { certificate_of_four (codes "certificate 4\nform 3*arg.w*group.1*group.1 + 0\nplace b3\nfact 1\nend\n") ≡ Ok (wide_certificate false (record { spot = record { anchor = Barrier 3; head = None }; same = []; facts = form (weighted (pos 3) (Product (Argument (codes "w")) (Product (Group Second) (Group Second))) ∷ []) (pos 0) ∷ []; congruences = []; multiples = [] } ∷ []) [] []) }
@@ -130,7 +131,7 @@ pub fn texts_with_products_are_read()
     ensures multiple_in_two { certificate_of_two (codes "certificate 2\nform 1*x + 0\nplace b3\nmultiple 1 of 1\nend\n") ≡ Err (BadLine 4) }
 {}
 
-/// What texts of version 4 say of lemmas and of products of lines, and that other versions have none of them.
+/// Texts of version 4 with lemmas and products of lines, by example. Other versions have none of them.
 pub fn texts_with_lemmas_are_read()
     ensures lemma { certificate_of_four (codes "certificate 4\nform 1*x + 0\nob 2 show\nl 1\ng 1\nm\np 1 2\nend\n") ≡ Ok (wide_certificate false [] [] (record { obligation = 2; sort = Show; lemmas = record { form = form (weighted (pos 1) (Variable (codes "x")) ∷ []) (pos 0); steps = Given (pos 1) ∷ [] } ∷ []; steps = Product (pos 1) (pos 2) ∷ [] } ∷ [])) }
     ensures not_ended { certificate_of_four (codes "certificate 4\nform 1*x + 0\nob 2 show\nl 1\ng 1\nend\n") ≡ Err (BadLine 6) }
@@ -141,8 +142,8 @@ pub fn texts_with_lemmas_are_read()
     ensures step_in_one { certificate_of (codes "certificate 1\nob 2 show\np 1 2\nend\n") ≡ Err (BadLine 3) }
 {}
 
-/// What texts of version 4 say of a certificate that joins: the line `join` stands behind the first line, and is one that faults count.
-/// Other versions have none.
+/// Texts of version 4 of a certificate that joins, by example: the line `join` stands behind the first line, and faults
+/// count it. Other versions have none.
 pub fn texts_that_join_are_read()
     ensures joined { certificate_of_four (codes "certificate 4\njoin\nplace b3\nsame x\nend\n") ≡ Ok (wide_certificate true (record { spot = record { anchor = Barrier 3; head = None }; same = codes "x" ∷ []; facts = []; congruences = []; multiples = [] } ∷ []) [] []) }
     ensures unused { certificate_of_four (codes "certificate 4\njoin\nform 1\nplace b3\nsame x\nend\n") ≡ Err (BadLine 3) }

@@ -11,6 +11,7 @@ use Rattle.kernel_reading.specs.Sources.{reading as reading_seen}
 use Rattle.command_line.specs.declared.Names.{Names}
 use Rattle.command_line.specs.declared.Search.{Search}
 use Rattle.command_line.specs.declared.Subject.{Subject}
+use Rattle.command_line.specs.declared.Showing.{Showing}
 use Rattle.command_line.specs.declared.Line.{Line}
 use Rattle.command_line.specs.declared.Line.TheVariants as lines
 
@@ -122,12 +123,21 @@ pub record HasSubject (ws : List (List ℕ)) (subject : Subject) : Type 0 where
   pub wide : subject.is_wide ≡ has_wide ws
   pub reading : AsksReading ws (reading_seen subject.reading)
 
+-- the kernel comes first, then the conditions, where they are named; `--opencl` is one of the words, and `--devices` says for which devices
+-- the kernel is read
+pub record HasShowing (ws : List (List ℕ)) (showing : Showing) : Type 0 where
+  pub kernel : HasWord ws 1 showing.kernel.now
+  pub conditions : option_map (λ w. w.now) showing.conditions ≡ slice_get (operands false ws) 2
+  pub opencl : has_opencl ws ≡ true
+  pub reading : AsksReading ws (reading_seen showing.reading)
+
 abbrev pub Asks : List (List ℕ) → Line → Type 0
 Asks ws lines.First = ws ≡ []
 Asks ws (lines.Check names) = HasWord ws 0 (codes "check") × HasNames ws names
 Asks ws (lines.Run names launch workers) = HasWord ws 0 (codes "run") × HasNames ws names × HasWord ws 4 launch.now × AsksWorkers ws workers
 Asks ws (lines.Prove search) = HasWord ws 0 (codes "prove") × HasSearch ws search
 Asks ws (lines.Explain subject) = HasWord ws 0 (codes "explain") × HasSubject ws subject
-Asks ws (lines.Print kernel) = HasWord ws 0 (codes "print") × HasWord ws 1 kernel.now
+Asks ws (lines.Print kernel) = HasWord ws 0 (codes "print") × HasWord ws 1 kernel.now × (has_opencl ws ≡ false)
+Asks ws (lines.Show showing) = HasWord ws 0 (codes "print") × HasShowing ws showing
 Asks ws (lines.Migrate old new) = HasWord ws 0 (codes "migrate") × HasWord ws 1 old.now × HasWord ws 2 new.now
 Asks ws lines.Usage = Unit {0}

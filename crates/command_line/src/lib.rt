@@ -3,14 +3,14 @@
 //! The command line. `clap` says whether the words are one; the files are the words that are no option, in their order.
 #![tactic(auto)]
 
-ghost use Rattle.std.specs.Prelude.{◌≡◌, ℕ, List, IfOk, IfSome, false, codes, slice_get};
+ghost use Rattle.std.specs.Prelude.{◌≡◌, ℕ, List, IfOk, IfSome, true, false, codes, slice_get};
 ghost use Rattle.std.specs.Fmt.{decimal};
 ghost use Rattle.std.specs.Option.{option_map};
 ghost use Rattle.types.specs.Names.{devices as devices_seen};
 ghost use Rattle.kernel_reading.specs.Sources.{language as language_seen, reading as reading_seen};
 ghost use Rattle.command_line.specs.Words.{texts, operands, saved_as, workers_as, devices_as, has_wide, has_opencl, IsNumberOf, AsksWorkers};
 ghost use Rattle.command_line.specs.Words.{IsDevicesOf, AsksDevices, language_by, AsksReading};
-ghost use Rattle.command_line.specs.Words.{HasWord, HasNames, HasSubject, Asks};
+ghost use Rattle.command_line.specs.Words.{HasWord, HasNames, HasSubject, HasShowing, Asks};
 
 use clap::error::{Error, ErrorKind};
 use clap::{Arg, ArgAction, Command};
@@ -33,6 +33,7 @@ pub enum Line<'a> {
     Explain(Subject<'a>),
     /// The canonical text of a file's kernel.
     Print(&'a str),
+    Show(Showing<'a>),
     /// The certificate of a file, written in version 2 to another one.
     Migrate {
         old: &'a str,
@@ -72,6 +73,15 @@ pub struct Subject<'a> {
     pub conditions: &'a str,
     pub certificate: Option<&'a str>,
     pub is_wide: bool,
+    pub reading: Reading,
+}
+
+/// The files of which `print` shows what is made of OpenCL C: a kernel's and its conditions', where they are named; and how the kernel is
+/// read.
+#[derive(Clone, Copy)]
+pub struct Showing<'a> {
+    pub kernel: &'a str,
+    pub conditions: Option<&'a str>,
     pub reading: Reading,
 }
 
@@ -130,7 +140,13 @@ fn form_of(command: Option<&str>) -> Option<Form<'static>> {
             &["devices"],
             FLAGS,
         ),
-        "print" => ("print", &["KERNEL"], 1, &[], &[]),
+        "print" => (
+            "print",
+            &["KERNEL", "CONDITIONS"],
+            1,
+            &["devices"],
+            &["opencl"],
+        ),
         "migrate" => ("migrate", &["OLD", "NEW"], 2, &[], &[]),
         _ => return None,
     };
@@ -432,14 +448,51 @@ fn explain_of<'a>(words: &'a [String]) -> Line<'a>
     }
 }
 
-/// `print` of the file that the words name, or no command line where they name none.
+/// The kernel and the conditions that the words name, if they name any, and the devices.
+fn showing_of<'a>(words: &'a [String]) -> Option<Showing<'a>>
+    requires { has_opencl (texts words.now) ≡ true }
+    ensures { IfSome result (λ showing. HasShowing (texts words.now) showing) }
+{
+    Some(Showing {
+        kernel: operand(words, 1)?,
+        conditions: operand(words, 2),
+        reading: reading_in(words)?,
+    })
+}
+
+/// `print` of OpenCL C, of the one or two files that the words name, or no command line where they name none, or devices that are none.
+fn show_of<'a>(words: &'a [String]) -> Line<'a>
+    requires command { HasWord (texts words.now) 0 (codes "print") }
+    requires opencl { has_opencl (texts words.now) ≡ true }
+    ensures { Asks (texts words.now) result }
+{
+    match showing_of(words) {
+        Some(showing) => Line::Show(showing),
+        None => Line::Usage,
+    }
+}
+
+/// `print` of the one file that the words name, or no command line where they name none, or two, or devices.
+fn plain_print_of<'a>(words: &'a [String]) -> Line<'a>
+    requires command { HasWord (texts words.now) 0 (codes "print") }
+    requires plain { has_opencl (texts words.now) ≡ false }
+    ensures { Asks (texts words.now) result }
+{
+    match (operand(words, 1), operand(words, 2), devices_word(words)) {
+        (Some(kernel), None, None) => Line::Print(kernel),
+        _ => Line::Usage,
+    }
+}
+
+/// `print` of the files that the words name.
 fn print_of<'a>(words: &'a [String]) -> Line<'a>
     requires { HasWord (texts words.now) 0 (codes "print") }
     ensures { Asks (texts words.now) result }
 {
-    match operand(words, 1) {
-        Some(kernel) => Line::Print(kernel),
-        None => Line::Usage,
+    if is_opencl(words) {
+        show_of(words)
+    } else {
+        plain_print_of(words)
     }
 }
 

@@ -102,7 +102,7 @@ pub enum UnaryOperator {
     ShiftRight(u32),
 }
 
-/// Which way bits are shifted.
+/// The direction of a shift of bits.
 #[derive(Clone, Copy)]
 pub enum Direction {
     Leftward,

@@ -13,7 +13,7 @@ use core_pieces::pieces::{
 };
 use std::alloc::{AllocError, Global};
 
-/// What a buffer of the moved text is: an array, from its first element on.
+/// The place of a buffer in the moved text: an array, from its first element on.
 #[derive(Clone, Copy)]
 pub struct Target {
     pub array: Array,

@@ -48,15 +48,15 @@ pub struct Derivation {
     pub lines: Vec<Line>,
 }
 
-/// What a line of a derivation has made: the fact that it names, or a form of its own.
+/// The form that a line of a derivation shows to be at least 0: a fact, by reference, or a form of its own.
 #[derive(Drop)]
 pub enum Made<'a> {
     Fact(&'a Form),
     Own(Box<Form>),
 }
 
-/// The lines of a derivation, checked one by one, against facts and those that are known beside them. Of a line that names a fact no more is
-/// kept than where that stands.
+/// The lines of a derivation, checked one by one, against facts and those that are known beside them. Of a line that
+/// names a fact only its place is kept.
 #[derive(Drop)]
 pub struct Checking<'a> {
     facts: &'a [Fact],
@@ -142,7 +142,8 @@ pub fn refutes(alloc: Global, facts: &[Fact], derivation: &Derivation) -> Result
     are_refuted(alloc, facts, known.as_slice(), lines)
 }
 
-/// What denies that a form is at least 0; none where a number is too large for `i64`.
+/// The form `-1 - shown`, which is at least 0 exactly where `shown` is not. It is none where a number of it is too
+/// large for `i64`.
 fn denied(alloc: Global, shown: &Form) -> Result<Option<Form>, AllocError>
     ensures { IfOk result (λ r. seen r ≡ within_i64 (denial (form shown.now))) }
 {
@@ -181,7 +182,8 @@ fn are_refuted(
     Ok(checking.is_refuted())
 }
 
-/// What a line of a derivation says to be at least 0; none where the line may not stand there.
+/// Computes the form that a line of a derivation shows to be at least 0, from facts and lines before it. It is none
+/// where the line may not stand there.
 fn make_line<'a>(
     alloc: Global,
     facts: &'a [Fact],

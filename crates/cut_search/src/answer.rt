@@ -1,4 +1,5 @@
-// What a search answers.
+//! The answer of a search: a derivation, a point, or neither.
+
 use cut_proof::Derivation;
 use linear::Symbol;
 

@@ -6,7 +6,7 @@ use std::alloc::{AllocError, Global};
 /// The moduli of so many congruences are tried.
 const MOST: usize = 4;
 
-/// How many facts have the symbol.
+/// The number of facts that have the symbol.
 fn occurrences(facts: &[Fact], symbol: Symbol) -> u32 {
     let mut count: u32 = 0;
     for fact in facts {

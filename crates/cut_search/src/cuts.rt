@@ -1,11 +1,12 @@
-// Cuts: sums of slacks whose coefficients divide and whose constants do not (Gomory 1958).
+//! Gomory cuts (1958): a sum of slacks with coefficients that divide and a constant that does not is rounded down.
+
 use crate::row::{Entry, Row, Variable};
 use crate::stop::Stop;
 use crate::tableau::{Origin, Part, Tableau};
 use linear::{Fact, Symbol};
 use std::alloc::Global;
 
-/// How many cuts are made before the tableau is solved again.
+/// The number of cuts before the tableau is solved again.
 const CUTS: usize = 4;
 
 /// The outcome of an attempt to cut the point of a tableau off.

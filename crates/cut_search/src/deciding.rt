@@ -1,4 +1,5 @@
-// A list of facts decided: by sums alone, then by cuts, and by dives now and then.
+//! Decides one list of facts: by a sum alone, then by cuts, and by a dive now and then.
+
 use super::answer::{Answer, Point};
 use super::congruences::{moduli_of, several};
 use super::cuts::{Cuts, cut};
@@ -12,7 +13,7 @@ use cut_proof::Derivation;
 use linear::Fact;
 use std::alloc::{AllocError, Global};
 
-/// How often the tableau is solved, cuts made between.
+/// The most times that the tableau is solved, with cuts made between.
 pub const ROUNDS: u32 = 40;
 
 /// Facts that several lists begin with, taken in and solved.
@@ -98,7 +99,7 @@ fn decide_by_modulus(alloc: Global, facts: &[Fact]) -> Result<Answer, Stop> {
     Err(Stop::GivenUp)
 }
 
-/// How often variables change places, and how often cuts are made, where a list is decided soon or not at all.
+/// The most pivots, and the most rounds of cuts, for a list that is decided soon or not at all.
 const SOON_PIVOTS: u32 = 200;
 
 const SOON_ROUNDS: u32 = 9;

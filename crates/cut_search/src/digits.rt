@@ -6,7 +6,7 @@ use guesses::{one_of, try_multiple, try_sum};
 use linear::{Form, Term};
 use std::alloc::{AllocError, Global};
 
-/// How many equalities are taken apart, and in how many ways each, at most.
+/// The most equalities that are taken apart, and the most ways to do so for each.
 const EQUALITIES: usize = 4;
 
 const WAYS: usize = 4;
@@ -26,7 +26,7 @@ fn with_term(alloc: Global, sum: &Form, term: &Term, by: i64) -> Result<Option<F
     }
 }
 
-/// What a number multiplies in a form: the terms whose coefficients it divides, divided.
+/// The part of a form that is a multiple of a number, divided by it: the terms whose coefficients it divides.
 fn share_of(alloc: Global, form: &Form, by: i64) -> Result<Option<Form>, AllocError> {
     let mut sum = Form::constant(alloc, 0);
     for term in form.terms() {

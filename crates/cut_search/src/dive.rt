@@ -1,4 +1,5 @@
-// Dives: whole points that are sought by bounding one symbol after the other.
+//! Dives: look for a whole point of a tableau by a bound on one symbol after the other.
+
 use super::answer::Point;
 use super::whole::point_of;
 use crate::row::{Row, Variable};
@@ -7,10 +8,10 @@ use crate::tableau::{Origin, Tableau};
 use linear::Symbol;
 use std::alloc::Global;
 
-/// How many symbols are bounded, at most.
+/// The most symbols that are bounded.
 const DEPTH: u32 = 14;
 
-/// How often variables change places for one bound, at most.
+/// The most pivots for one bound.
 const PIVOTS: u32 = 60;
 
 /// A symbol whose value is between two whole numbers.

@@ -180,7 +180,8 @@ fn push_sum(
     }
 }
 
-/// How often a form is another one, where it is some times that or each of its terms is some times its only term.
+/// The quotient of two forms, where the first is a multiple of the second, or each of its terms is one of the second's
+/// only term.
 fn divided_by(alloc: Global, form: &Form, of: &Form) -> Result<Option<Form>, AllocError> {
     if let Some(times) = times_of(form, of) {
         return Ok(Some(Form::constant(alloc, times)));
@@ -193,7 +194,7 @@ fn divided_by(alloc: Global, form: &Form, of: &Form) -> Result<Option<Form>, All
     }
 }
 
-/// How often a form is another one in whole.
+/// The number that a form is a multiple of another one by, as a whole.
 fn times_of(form: &Form, of: &Form) -> Option<i64> {
     let first = of.terms().first()?;
     if form.terms().is_empty() && form.constant_part() == 0 {
@@ -215,7 +216,7 @@ fn times_of(form: &Form, of: &Form) -> Option<i64> {
     Some(times)
 }
 
-/// How often each term of a form is another term, in sum.
+/// The sum of the quotients of each term of a form by another term.
 fn divided_by_term(alloc: Global, form: &Form, of: Term) -> Result<Option<Form>, AllocError> {
     let mut sum = Form::constant(alloc, 0);
     for term in form.terms() {
@@ -230,7 +231,7 @@ fn divided_by_term(alloc: Global, form: &Form, of: Term) -> Result<Option<Form>,
     Ok(Some(sum))
 }
 
-/// How often a term is another one.
+/// The quotient of two terms; none where the second does not divide the first.
 fn term_by(alloc: Global, term: Term, of: Term) -> Result<Option<Form>, AllocError> {
     let (Some(times), Some(0)) = (
         term.coefficient.checked_div(of.coefficient),

@@ -94,7 +94,7 @@ fn begins_above(form: &Form) -> bool {
     }
 }
 
-/// How late a symbol is solved for: what a path has of its own comes first.
+/// The rank by which symbols are solved for: those of a path alone come first.
 fn lateness(symbol: Symbol) -> u64 {
     if is_launch(symbol) || is_product(symbol) {
         return 2;

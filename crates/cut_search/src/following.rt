@@ -7,15 +7,15 @@ use guesses::{has_product, one_of, plain, try_sum};
 use linear::{Form, Symbol};
 use std::alloc::Global;
 
-/// How many factors are tried that they are at least 0.
+/// The most factors that are tried to be at least 0.
 const FROM_ZERO: usize = 6;
 
-/// How many facts are tried that an equality makes shorter, and how many terms they have then, at most.
+/// The most facts that an equality makes shorter that are tried, and the most terms that they have then.
 const SHORTER: usize = 10;
 
 const SHORT: usize = 3;
 
-/// How many sums of two facts are tried that may be multiplied, and how many terms they have, at most.
+/// The most sums of two facts that are tried as factors, and the most terms that they have.
 const SUMS: usize = 10;
 
 const TERMS: usize = 4;
@@ -49,7 +49,7 @@ fn has_factor(form: &Form, factors: &[u64]) -> bool {
     false
 }
 
-/// How many terms of a form are opposites of another one's.
+/// The number of terms of a form that are opposites of another one's.
 pub fn count_opposite(form: &Form, other: &Form) -> usize {
     let mut count = 0usize;
     for term in form.terms() {
@@ -73,7 +73,7 @@ fn is_shorter(sum: &Form, count: usize, factors: &[u64]) -> bool {
     own > 0 && own <= SHORT && own < count && has_factor(sum, factors)
 }
 
-/// What comes of a fact with an equality put in; nothing where that is no shorter.
+/// Adds a fact with an equality put in, where that makes it shorter.
 fn add_shortened(alloc: Global, menu: &mut Menu, equality: &Form, fact: &Form, factors: &[u64]) {
     match try_sum(alloc, fact, equality) {
         Ok(Some(sum)) if is_shorter(&sum, fact.terms().len(), factors) => menu.add(sum),

@@ -25,7 +25,7 @@ const FACTS: usize = 40;
 
 const SUMS: usize = 120;
 
-/// What a symbol multiplies in a form.
+/// A symbol, and the form that it is multiplied with in a form.
 #[derive(Drop)]
 struct Share {
     symbol: Symbol,
@@ -50,7 +50,7 @@ fn add_share(alloc: Global, sum: Form, term: &Term, factor: u64) -> Result<Form,
     Ok(try_sum(alloc, &sum, &part)?.unwrap_or(sum))
 }
 
-/// What a factor multiplies in a form.
+/// The cofactor of a factor in a form: the sum that it is multiplied with.
 fn share_of(alloc: Global, form: &Form, factor: u64) -> Result<Form, AllocError> {
     let mut sum = Form::constant(alloc, 0);
     for term in form.terms() {
@@ -80,7 +80,7 @@ fn factors_in(alloc: Global, form: &Form) -> Result<Vec<u64>, AllocError> {
     Ok(found)
 }
 
-/// What each symbol multiplies that is in a product of a form, that of most terms first.
+/// The cofactor of each symbol that is in a product of a form, that of most terms first.
 fn shares_of(alloc: Global, form: &Form) -> Result<Vec<Share>, AllocError> {
     let mut shares: Vec<Share> = Vec::new(alloc);
     let factors = factors_in(alloc, form)?;
@@ -353,7 +353,7 @@ fn add_mixed(
     Ok(())
 }
 
-/// How many terms of a form have not a symbol among their factors.
+/// The number of terms of a form that lack a symbol among their factors.
 fn count_without(form: &Form, symbol: Symbol) -> usize {
     let factor = symbol.number.saturating_add(1);
     let mut count = 0usize;
@@ -386,7 +386,7 @@ fn add_fact(alloc: Global, menu: &mut Menu, fact: &Form) -> Result<(), AllocErro
     Ok(())
 }
 
-/// What may be lemmas of facts, the likeliest first, so many at most or somewhat more.
+/// Forms that may serve as lemmas of facts, the likeliest first, so many at most or somewhat more.
 pub fn lemmas_for(
     alloc: Global,
     facts: &[Form],

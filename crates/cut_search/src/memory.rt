@@ -19,17 +19,17 @@ use linear::{Form, Symbol};
 use std::alloc::{AllocError, Global};
 use std::mem::replace;
 
-/// How many answers of a kind are remembered before all of them are forgotten.
+/// The most answers of a kind that are remembered; then all are forgotten.
 const LIMIT: usize = 4096;
 
-/// How many points with the number of a question are tried, the newest first.
+/// The most points with the number of a question that are tried, the newest first.
 const POINTS: usize = 24;
 
-/// How much work is done before no more is begun: so many facts are asked about, a search counts as many times the facts of its list, and
-/// what products take is counted too.
+/// The work after which no more is begun. It counts the facts that are asked about, a search as many times the facts of
+/// its list, and products too.
 const WORK: u64 = 9_000_000;
 
-/// How many times the facts of its list a search counts.
+/// The work of a search, as a multiple of the facts of its list.
 const SEARCH: u64 = 20;
 
 /// A point, and the number of the fact that was denied; of a list with products where these are none at the point, so that products of
@@ -112,7 +112,7 @@ impl Memory {
         self.work >= WORK
     }
 
-    /// How many questions were not answered from memory.
+    /// The number of questions that were not answered from memory.
     pub fn searches(&self) -> usize {
         self.searches
     }
@@ -362,7 +362,7 @@ impl<'a> Questions<'a> {
         })
     }
 
-    /// What was found, for the memory.
+    /// The answers that were found, as a memory.
     pub fn into_own(self) -> Memory {
         self.own
     }

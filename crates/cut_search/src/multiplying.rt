@@ -107,7 +107,7 @@ fn is_low_end(fact: &Form) -> bool {
     }
 }
 
-/// Which symbols make products at hand with which, and from which constant on a fact is not multiplied.
+/// The symbols that make products at hand with one another, and the least constant with which a fact is not multiplied.
 #[derive(Clone, Copy)]
 pub struct Multiplied<'a> {
     pub partings: &'a [Couple],

@@ -1,4 +1,5 @@
-// Numbers of rows: greatest common divisors, quotients, and sums of products within i64.
+//! Arithmetic of rows in `i64`: greatest common divisors, quotients, and sums of two products.
+
 ghost use Rattle.std.specs.Prelude.{pos, ◌<ℤ◌};
 
 /// The greatest common divisor; of 0 and a number that number.

@@ -1,4 +1,5 @@
-// Points: whole numbers for symbols.
+//! Points: a whole number for each symbol. Says whether a point meets a list of facts.
+
 ghost use Rattle.std.specs.Prelude.{◌≡◌, ℕ, ℤ, pos, ◌+ℤ◌, ◌*ℤ◌, IfSome, IsTrue};
 ghost use Rattle.std.specs.List.{All};
 ghost use Rattle.linear.specs.Linear.{IsMet, value_of};

@@ -31,12 +31,12 @@ pub struct Pool {
     factors: Vec<Factor>,
     /// The slots of variables that lemmas cannot name.
     unnamed: Vec<u64>,
-    /// How many of what is known are facts; those with so large a constant are not multiplied.
+    /// The number of facts among what is known. One with a constant as large as that is not multiplied.
     given: usize,
     large: u64,
 }
 
-/// Copies of forms.
+/// Copies each form of a list. The error is want of memory.
 fn copies(alloc: Global, forms: &[Form]) -> Result<Vec<Form>, AllocError> {
     let mut all = Vec::with_capacity(alloc, forms.len())?;
     for form in forms {
@@ -208,7 +208,7 @@ impl Pool {
         }
     }
 
-    /// What may be lemmas of what is known, the likeliest first, so many at most or somewhat more.
+    /// Forms that may serve as lemmas of what is known, the likeliest first, so many at most or somewhat more.
     pub fn menu(&self, alloc: Global, most: usize) -> Result<Vec<Form>, AllocError> {
         let multiplied = Multiplied {
             partings: self.partings.as_slice(),

@@ -127,7 +127,7 @@ fn mark_used(used: &mut Vec<bool>, count: usize, lines: &[Line]) {
     }
 }
 
-/// Which lemmas the last lines need.
+/// The lemmas that the last lines need, those that lemmas need among them.
 fn needed(
     alloc: Global,
     count: usize,

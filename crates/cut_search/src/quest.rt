@@ -16,18 +16,18 @@ use guesses::{plus, try_multiple};
 use linear::{Fact, Form};
 use std::alloc::{AllocError, Global};
 
-/// How often lemmas are tried anew with those that are shown.
+/// The most times that lemmas are tried anew with those that are shown.
 const TURNS: u32 = 5;
 
-/// How many lemmas are tried each time, at most.
+/// The most lemmas that are tried each time.
 const LEMMAS: usize = 44;
 
-/// How often the tableau of a lemma is solved, and how often its variables change places.
+/// The most times that the tableau of a lemma is solved, and the most pivots of it.
 const LEMMA_ROUNDS: u32 = 10;
 
 const LEMMA_PIVOTS: u32 = 600;
 
-/// How often variables change places in the last try.
+/// The most pivots of the last try.
 const LAST_PIVOTS: u32 = 500;
 
 /// As how much work each form of a tableau counts that is solved.
@@ -49,7 +49,7 @@ struct Quest {
     work: u64,
 }
 
-/// What is found by a step: lines that refute, over the numbers of the pool's forms.
+/// The result of a step: lines that refute, over the numbers of the pool's forms.
 type Lines = Option<Vec<Line>>;
 
 /// The lines of a derivation.
@@ -60,7 +60,7 @@ fn lines_of(derivation: Option<Derivation>) -> Lines {
     }
 }
 
-/// What was given up was not found.
+/// Takes a search that was given up as one that found nothing.
 fn found_or_not(outcome: Result<Lines, Stop>) -> Result<Lines, AllocError> {
     match outcome {
         Ok(lines) => Ok(lines),
@@ -84,7 +84,7 @@ fn enter(alloc: Global, tableau: &mut Tableau, forms: &[Form], from: usize) -> R
     }
 }
 
-/// What denies that a form is at least 0; none where a number is too large.
+/// The form that is at least 0 exactly where this one is not; none where a number is too large.
 fn denial_of(alloc: Global, form: &Form) -> Result<Option<Form>, AllocError> {
     match try_multiple(alloc, form, -1)? {
         Some(opposite) => plus(alloc, &opposite, -1),
@@ -92,7 +92,8 @@ fn denial_of(alloc: Global, form: &Form) -> Result<Option<Form>, AllocError> {
     }
 }
 
-/// How a lemma is tried: it is not shown, it is, or with it all is refuted by these lines over the facts and lemmas.
+/// The result of a lemma's trial: it is not shown, it is, or with it all is refuted by these lines over the facts and
+/// lemmas.
 #[derive(Drop)]
 enum Tried {
     Failed,
@@ -328,7 +329,7 @@ fn by_wider(
     }
 }
 
-/// What was given up was not found.
+/// Takes a search that was given up as one that found nothing.
 fn known_or_not(
     outcome: Result<Option<Derivation>, Stop>,
 ) -> Result<Option<Derivation>, AllocError> {
@@ -378,7 +379,7 @@ fn found_or(found: Option<Derivation>, outcome: Result<Answer, Stop>) -> Result<
     }
 }
 
-/// What is found for facts of which some have products.
+/// Searches facts of which some have products.
 fn of_products(
     alloc: Global,
     facts: &[Fact],

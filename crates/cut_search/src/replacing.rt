@@ -40,7 +40,8 @@ fn solvable(form: &Form) -> Option<Symbol> {
     }
 }
 
-/// What the symbol is where the form, which has it once or once below 0, is 0.
+/// The value of the symbol where the form is 0. The form has it with coefficient 1 or -1. It is none where a number is
+/// too large.
 pub fn value_of(alloc: Global, form: &Form, symbol: Symbol) -> Result<Option<Form>, AllocError> {
     let sign = form.coefficient(symbol).wrapping_neg();
     let Some(turned) = try_multiple(alloc, form, sign)? else {
@@ -72,7 +73,7 @@ fn add_replacement(
     Ok(())
 }
 
-/// What equalities of two symbols say of one of them.
+/// The replacements of one symbol by another that equalities of two symbols give.
 pub fn replacements_of(alloc: Global, facts: &[Form]) -> Result<Vec<Replacement>, AllocError> {
     let mut hashes = hashes_of(alloc, facts)?;
     hashes.sort_unstable();
@@ -85,7 +86,7 @@ pub fn replacements_of(alloc: Global, facts: &[Form]) -> Result<Vec<Replacement>
     Ok(found)
 }
 
-/// What a term is where one of its factors is replaced; none where it has not the factor, or a number is too large.
+/// A term with one of its factors replaced; none where it has not the factor, or a number is too large.
 fn term_with(
     alloc: Global,
     term: &Term,

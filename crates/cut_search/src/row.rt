@@ -1,4 +1,5 @@
-// Rows of a tableau: a variable as a fraction of a sum of others.
+//! Rows of a tableau: a variable as a sum of multiples of other variables, over a divisor.
+
 ghost use Rattle.std.specs.Prelude.{pos, ◌<ℤ◌};
 
 use super::numbers::{blend, greatest_divisor, quotient};

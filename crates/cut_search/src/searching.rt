@@ -1,4 +1,5 @@
-// The search, and its beginning with facts that several lists have in common.
+//! The search of this crate's interface, and what several lists with the same first facts share of it.
+
 ghost use Rattle.std.specs.Prelude.{◌≡◌, true, IfOk, IfSome, map};
 ghost use Rattle.linear.specs.Linear.{IsImpossible};
 ghost use Rattle.linear.specs.Products.{IsImpossibleWithProducts};

@@ -1,7 +1,8 @@
-// Why a search ends without an answer.
+//! The reasons for which a search ends without an answer.
+
 use std::alloc::{AllocError, AllocFailed};
 
-/// Why a search ends without an answer.
+/// The reasons for which a search ends without an answer.
 #[derive(Drop)]
 pub enum Stop {
     /// A number leaves `i64`, or a limit is reached.

@@ -1,4 +1,5 @@
-// Sums of two facts that round: their coefficients have a divisor that the constant lacks.
+//! Sums of two facts that round: the coefficients of the sum have a common divisor, and the constant does not have it.
+
 use super::cuts::{form_of, is_fraction, try_cut};
 use crate::row::{Entry, Row};
 use crate::stop::Stop;
@@ -6,7 +7,7 @@ use crate::tableau::{Part, Tableau};
 use linear::Fact;
 use std::alloc::{AllocError, Global};
 
-/// How many symbols such a sum has, at most.
+/// The most symbols that such a sum has.
 const SYMBOLS: usize = 4;
 
 /// The number of sums that are taken in, about and at most.

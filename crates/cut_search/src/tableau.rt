@@ -1,10 +1,11 @@
-// Tableaus: the rows of all slacks and symbols that are a sum of others, and the steps of the simplex method.
+//! The tableau of the simplex method: a row for each slack or symbol that is a sum of the others, and the steps between tableaus.
+
 use super::row::{Entry, Row, Variable};
 use super::stop::Stop;
 use linear::{Fact, Symbol};
 use std::alloc::{AllocError, Global};
 
-/// How often variables change places in one search, at most.
+/// The most pivots in one search.
 pub const PIVOTS: u32 = 3_000;
 
 /// The number of steps, from the first on, for which short rows are taken, as long as that leads on.

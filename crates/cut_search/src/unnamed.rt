@@ -73,7 +73,7 @@ fn add_value(
     Ok(())
 }
 
-/// What equalities say of the variables of the slots, in symbols that have names.
+/// The values of the variables of the slots, in symbols that have names, as equalities give them.
 pub fn values_of(
     alloc: Global,
     slots: &[u64],

@@ -1,4 +1,5 @@
-// Whole points of tableaus.
+//! Whether the point of a tableau is whole, and which numbers it gives its symbols.
+
 use super::answer::Point;
 use crate::row::{Row, Variable};
 use crate::stop::Stop;

@@ -1,4 +1,5 @@
-// The derivation of a sum of slacks: the lines of the slacks that it needs, and its own.
+//! Writes derivations: the lines of each slack that a sum needs, then the line of the sum.
+
 use crate::stop::Stop;
 use crate::tableau::{Origin, Part};
 use cut_proof::{Derivation, Line};
@@ -13,7 +14,7 @@ fn mark_parts(needed: &mut Vec<bool>, parts: &[Part]) {
     }
 }
 
-/// Which slacks the parts need.
+/// The slacks that the parts need, as a flag for each.
 fn needed_by(alloc: Global, origins: &[Origin], parts: &[Part]) -> Result<Vec<bool>, Stop> {
     let mut needed = vec![in alloc; false; origins.len()]?;
     mark_parts(&mut needed, parts);

@@ -45,15 +45,18 @@ within a b z p q =
 pub left : (a b : Residue) (z : ℤ) → leaves a z ≡ true → leaves b z ≡ true → leaves (finer a b) z ≡ true
 left a b z p q =
     let R : Residue → Type 0 = λ r. leaves r z ≡ true in
-    cond_both (a.modulus == 0) a _ R (λ e. p) (λ e. cond_both (b.modulus == 0) b _ R (λ f. q) (λ f. cond_both (nat_lt a.modulus b.modulus) b a R (λ g. q) (λ g. p)))
+    cond_both (a.modulus == 0) a _ R (λ e. p)
+    (λ e. cond_both (b.modulus == 0) b _ R (λ f. q) (λ f. cond_both (nat_lt a.modulus b.modulus) b a R (λ g. q) (λ g. p)))
 
 -- two tests that are passed, and what each gives
 pub both : {p q r s : Bool} → (p ≡ true → r ≡ true) → (q ≡ true → s ≡ true) → (p && q) ≡ true → (r && s) ≡ true
 both {p} {q} {r} {s} f g h = let u = and_parts p q h in and_from r s (f u.0) (g u.1)
 
-pub both_two : {p q p' q' r s : Bool} → (p ≡ true → p' ≡ true → r ≡ true) → (q ≡ true → q' ≡ true → s ≡ true) → (p && q) ≡ true → (p' && q') ≡ true → (r && s) ≡ true
+pub both_two : {p q p' q' r s : Bool} → (p ≡ true → p' ≡ true → r ≡ true) → (q ≡ true → q' ≡ true → s ≡ true)
+    → (p && q) ≡ true → (p' && q') ≡ true → (r && s) ≡ true
 both_two {p} {q} {p'} {q'} {r} {s} f g h k = let u = and_parts p q h in let v = and_parts p' q' k in and_from r s (f u.0 v.0) (g u.1 v.1)
 
-pub either : {p q p' q' r s : Bool} → ((p ≡ true) ⊎ (p' ≡ true) → r ≡ true) → ((q ≡ true) ⊎ (q' ≡ true) → s ≡ true) → ((p && q) ≡ true) ⊎ ((p' && q') ≡ true) → (r && s) ≡ true
+pub either : {p q p' q' r s : Bool} → ((p ≡ true) ⊎ (p' ≡ true) → r ≡ true) → ((q ≡ true) ⊎ (q' ≡ true) → s ≡ true)
+    → ((p && q) ≡ true) ⊎ ((p' && q') ≡ true) → (r && s) ≡ true
 either {p} {q} {p'} {q'} {r} {s} f g (inl h) = let u = and_parts p q h in and_from r s (f (inl u.0)) (g (inl u.1))
 either {p} {q} {p'} {q'} {r} {s} f g (inr h) = let u = and_parts p' q' h in and_from r s (f (inr u.0)) (g (inr u.1))

@@ -103,17 +103,22 @@ abbrev pub last_divisor : ℤ → ℤ → ℤ
 last_divisor low high = cond (int_le high (pos 0)) (int_min high (negsuc 0)) (cond (int_le low (negsuc 0)) (pos 1) high)
 
 abbrev pub divide : Bounds → Bounds → Bounds
-divide a b = cond (is_zero (low_of far_divisor b) (high_of far_divisor b)) all (quotients (low_of far_dividend a) (high_of far_dividend a) (first_divisor (low_of far_divisor b) (high_of far_divisor b)) (last_divisor (low_of far_divisor b) (high_of far_divisor b)))
+divide a b = cond (is_zero (low_of far_divisor b) (high_of far_divisor b)) all
+    (quotients (low_of far_dividend a) (high_of far_dividend a) (first_divisor (low_of far_divisor b) (high_of far_divisor b))
+    (last_divisor (low_of far_divisor b) (high_of far_divisor b)))
 
 -- the dividend's sign, and less in size than the greatest size of a divisor, and no more than the dividend's
 abbrev pub remainders : ℤ → ℤ → ℤ → Bounds
-remainders low high most = span (cond (int_le (pos 0) low) (pos 0) (int_max low (neg_ℤ most))) (cond (int_le high (pos 0)) (pos 0) (int_min high most))
+remainders low high most = span (cond (int_le (pos 0) low) (pos 0) (int_max low (neg_ℤ most)))
+    (cond (int_le high (pos 0)) (pos 0) (int_min high most))
 
 abbrev pub remainder : Bounds → Bounds → Bounds
-remainder a b = cond (is_zero (low_of far b) (high_of far b)) all (remainders (low_of far a) (high_of far a) (int_max (neg_ℤ (low_of far b)) (high_of far b) -ℤ pos 1))
+remainder a b = cond (is_zero (low_of far b) (high_of far b)) all
+    (remainders (low_of far a) (high_of far a) (int_max (neg_ℤ (low_of far b)) (high_of far b) -ℤ pos 1))
 
 abbrev pub mask : Bounds → Bounds → Bounds
-mask a b = cond (int_le (pos 0) (low_of far a) && int_le (pos 0) (low_of far b)) (span (pos 0) (int_min (high_of far a) (high_of far b))) all
+mask a b = cond (int_le (pos 0) (low_of far a) && int_le (pos 0) (low_of far b))
+    (span (pos 0) (int_min (high_of far a) (high_of far b))) all
 
 abbrev pub shift_left : Bounds → ℕ → Bounds
 shift_left a k = multiply a (span (pos (2 ^ k)) (pos (2 ^ k)))

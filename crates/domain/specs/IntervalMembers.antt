@@ -45,7 +45,8 @@ member b z h =
     let w = and_parts (is_above b.low z) (is_below b.high z) p.1 in
     (low b.low z e.0 w.0, high b.high z e.1 w.1)
 
-tests : (low high : Option ℤ) (z : ℤ) → is_end low ≡ true → is_end high ≡ true → is_above low z ≡ true → is_below high z ≡ true → is_member (record { low = low; high = high }) z ≡ true
+tests : (low high : Option ℤ) (z : ℤ) → is_end low ≡ true → is_end high ≡ true → is_above low z ≡ true → is_below high z ≡ true
+    → is_member (record { low = low; high = high }) z ≡ true
 tests low high z p q r s = and_from _ _ (and_from _ _ p q) (and_from _ _ r s)
 
 low-back : (o : Option ℤ) (z : ℤ) → Low o z → (is_end o ≡ true) × (is_above o z ≡ true)
@@ -74,5 +75,6 @@ high-end n z h = cond_both (fits n) (Some n) None (λ o. High o z) (λ e.
     (p, q, h p q)) (λ e. tt)
 
 -- a span holds what is between its numbers, so far as these are ends
-pub in_span : (low high z : ℤ) → (least ≤ℤ low → low ≤ℤ greatest → low ≤ℤ z) → (least ≤ℤ high → high ≤ℤ greatest → z ≤ℤ high) → is_member (span low high) z ≡ true
+pub in_span : (low high z : ℤ) → (least ≤ℤ low → low ≤ℤ greatest → low ≤ℤ z) → (least ≤ℤ high → high ≤ℤ greatest → z ≤ℤ high)
+    → is_member (span low high) z ≡ true
 in_span low high z p q = member-in (end low) (end high) z (low-end low z p) (high-end high z q)

@@ -40,11 +40,13 @@ without-bit : (m n i : ℕ) → bit_at (without m n) i ≡ (bit_at m i + min (bi
 without-bit m n i = bit_at_xor m (bit_and m n) i ∙ ap (λ x. (bit_at m i + x) % 2) (bit_at_and m n i)
 
 alike-bit : (a b : Bits) (i : ℕ)
-    → bit_at (alike a b) i ≡ (min (bit_at a.known i) (bit_at b.known i) + min (min (bit_at a.known i) (bit_at b.known i)) ((bit_at a.value i + bit_at b.value i) % 2)) % 2
+    → bit_at (alike a b) i ≡ (min (bit_at a.known i) (bit_at b.known i)
+    + min (min (bit_at a.known i) (bit_at b.known i)) ((bit_at a.value i + bit_at b.value i) % 2)) % 2
 alike-bit a b i =
     let n = bit_xor a.value b.value in
     let m = min (bit_at a.known i) (bit_at b.known i) in
-    without-bit (bit_and a.known b.known) n i ∙ ap (λ x. (x + min x (bit_at n i)) % 2) (bit_at_and a.known b.known i) ∙ ap (λ x. (m + min m x) % 2) (bit_at_xor a.value b.value i)
+    without-bit (bit_and a.known b.known) n i ∙ ap (λ x. (x + min x (bit_at n i)) % 2) (bit_at_and a.known b.known i)
+    ∙ ap (λ x. (m + min m x) % 2) (bit_at_xor a.value b.value i)
 
 -- a bit of the value is the number's, where it is known
 value-bit : (w m v i : ℕ) → bit_and w m ≡ v → bit_at v i ≡ min (bit_at w i) (bit_at m i)
@@ -59,12 +61,14 @@ joins a b z (inl p) =
     let w = modulo z (2 ^ 32) in
     eq-eqb (bit_and w (alike a b)) (bit_and a.value (alike a b))
     (same_from_bits _ _ (λ i. under w a.value (alike a b) i _ (alike-bit a b i)
-    (joined-first _ _ _ _ _ (bit_at-lt w i) (bit_at-lt a.known i) (bit_at-lt a.value i) (bit_at-lt b.known i) (bit_at-lt b.value i) (value-bit w a.known a.value i (has a z p)))))
+    (joined-first _ _ _ _ _ (bit_at-lt w i) (bit_at-lt a.known i) (bit_at-lt a.value i) (bit_at-lt b.known i)
+    (bit_at-lt b.value i) (value-bit w a.known a.value i (has a z p)))))
 joins a b z (inr p) =
     let w = modulo z (2 ^ 32) in
     eq-eqb (bit_and w (alike a b)) (bit_and a.value (alike a b))
     (same_from_bits _ _ (λ i. under w a.value (alike a b) i _ (alike-bit a b i)
-    (joined-second _ _ _ _ _ (bit_at-lt w i) (bit_at-lt a.known i) (bit_at-lt a.value i) (bit_at-lt b.known i) (bit_at-lt b.value i) (value-bit w b.known b.value i (has b z p)))))
+    (joined-second _ _ _ _ _ (bit_at-lt w i) (bit_at-lt a.known i) (bit_at-lt a.value i) (bit_at-lt b.known i)
+    (bit_at-lt b.value i) (value-bit w b.known b.value i (has b z p)))))
 
 pub adds : (a b : Bits) (x y : ℤ) → agrees a x ≡ true → agrees b y ≡ true → agrees (add a b) (x +ℤ y) ≡ true
 adds a b x y p q =
@@ -114,36 +118,47 @@ abbrev known_of_both : Bits → Bits → ℕ
 known_of_both a b = bit_or (bit_and a.known b.known) (bit_or (zeros a) (zeros b))
 
 both-bit : (a b : Bits) (i : ℕ)
-    → bit_at (known_of_both a b) i ≡ max (min (bit_at a.known i) (bit_at b.known i)) (max ((bit_at a.known i + min (bit_at a.known i) (bit_at a.value i)) % 2) ((bit_at b.known i + min (bit_at b.known i) (bit_at b.value i)) % 2))
+    → bit_at (known_of_both a b) i ≡ max (min (bit_at a.known i) (bit_at b.known i))
+    (max ((bit_at a.known i + min (bit_at a.known i) (bit_at a.value i)) % 2)
+    ((bit_at b.known i + min (bit_at b.known i) (bit_at b.value i)) % 2))
 both-bit a b i =
     let m = min (bit_at a.known i) (bit_at b.known i) in
-    bit_at_or (bit_and a.known b.known) (bit_or (zeros a) (zeros b)) i ∙ ap (λ x. max x (bit_at (bit_or (zeros a) (zeros b)) i)) (bit_at_and a.known b.known i)
-    ∙ ap (max m) (bit_at_or (zeros a) (zeros b) i ∙ ap (λ x. max x (bit_at (zeros b) i)) (without-bit a.known a.value i) ∙ ap (max ((bit_at a.known i + min (bit_at a.known i) (bit_at a.value i)) % 2)) (without-bit b.known b.value i))
+    bit_at_or (bit_and a.known b.known) (bit_or (zeros a) (zeros b)) i
+    ∙ ap (λ x. max x (bit_at (bit_or (zeros a) (zeros b)) i)) (bit_at_and a.known b.known i)
+    ∙ ap (max m) (bit_at_or (zeros a) (zeros b) i ∙ ap (λ x. max x (bit_at (zeros b) i)) (without-bit a.known a.value i)
+    ∙ ap (max ((bit_at a.known i + min (bit_at a.known i) (bit_at a.value i)) % 2)) (without-bit b.known b.value i))
 
-pub both-under : (x y : ℕ) (a b : Bits) → bit_and x a.known ≡ a.value → bit_and y b.known ≡ b.value → bit_and (bit_and x y) (known_of_both a b) ≡ bit_and a.value b.value
+pub both-under : (x y : ℕ) (a b : Bits) → bit_and x a.known ≡ a.value → bit_and y b.known ≡ b.value
+    → bit_and (bit_and x y) (known_of_both a b) ≡ bit_and a.value b.value
 both-under x y a b e f =
-    same_from_bits _ _ (λ i. bit_at_and (bit_and x y) (known_of_both a b) i ∙ ap (λ u. min u (bit_at (known_of_both a b) i)) (bit_at_and x y i) ∙ ap (min (min (bit_at x i) (bit_at y i))) (both-bit a b i)
-    ∙ masked _ _ _ _ _ _ (bit_at-lt x i) (bit_at-lt y i) (bit_at-lt a.known i) (bit_at-lt a.value i) (bit_at-lt b.known i) (bit_at-lt b.value i) (value-bit x a.known a.value i e) (value-bit y b.known b.value i f)
+    same_from_bits _ _ (λ i. bit_at_and (bit_and x y) (known_of_both a b) i ∙ ap (λ u. min u (bit_at (known_of_both a b) i))
+    (bit_at_and x y i) ∙ ap (min (min (bit_at x i) (bit_at y i))) (both-bit a b i)
+    ∙ masked _ _ _ _ _ _ (bit_at-lt x i) (bit_at-lt y i) (bit_at-lt a.known i) (bit_at-lt a.value i) (bit_at-lt b.known i)
+    (bit_at-lt b.value i) (value-bit x a.known a.value i e) (value-bit y b.known b.value i f)
     ∙ sym (bit_at_and a.value b.value i))
 
 pub masks : (a b : Bits) (m n : ℕ) → agrees a (pos m) ≡ true → agrees b (pos n) ≡ true → agrees (mask a b) (pos (bit_and m n)) ≡ true
 masks a b m n p q =
     eq-eqb (bit_and (bit_and m n % 2 ^ 32) (known_of_both a b)) (bit_and a.value b.value)
-    (ap (λ w. bit_and w (known_of_both a b)) (and_mod m n 32) ∙ both-under (m % 2 ^ 32) (n % 2 ^ 32) a b (has a (pos m) p) (has b (pos n) q))
+    (ap (λ w. bit_and w (known_of_both a b)) (and_mod m n 32)
+    ∙ both-under (m % 2 ^ 32) (n % 2 ^ 32) a b (has a (pos m) p) (has b (pos n) q))
 
 -- ---- shifts
-pub shifted-under : (w k : ℕ) (a : Bits) → bit_and w a.known ≡ a.value → bit_and ((w * 2 ^ k) % 2 ^ 32) (shift_left a k).known ≡ (shift_left a k).value
+pub shifted-under : (w k : ℕ) (a : Bits) → bit_and w a.known ≡ a.value
+    → bit_and ((w * 2 ^ k) % 2 ^ 32) (shift_left a k).known ≡ (shift_left a k).value
 shifted-under w k a e =
     let n = a.known * 2 ^ k + (2 ^ k - 1) in
     let z = pow_pos k in
     let f : w * 2 ^ k ≡ w * 2 ^ k + 0 = omega arith in
-    let g : bit_and (w * 2 ^ k) n ≡ a.value * 2 ^ k = ap (λ u. bit_and u n) f ∙ and_block k w a.known 0 (2 ^ k - 1) z (omega arith) ∙ ap (λ u. u * 2 ^ k + 0) e ∙ omega arith in
+    let g : bit_and (w * 2 ^ k) n ≡ a.value * 2 ^ k = ap (λ u. bit_and u n) f
+    ∙ and_block k w a.known 0 (2 ^ k - 1) z (omega arith) ∙ ap (λ u. u * 2 ^ k + 0) e ∙ omega arith in
     sym (and_mod (w * 2 ^ k) n 32) ∙ ap (λ u. u % 2 ^ 32) g
 
 pub shifts_left : (a : Bits) (k : ℕ) (x : ℤ) → k < 32 → agrees a x ≡ true → agrees (shift_left a k) (x *ℤ pos (2 ^ k)) ≡ true
 shifts_left a k x h p =
     let w = modulo x (2 ^ 32) in
-    let d : Multiple (2 ^ 32) (x *ℤ pos (2 ^ k) -ℤ pos (w * 2 ^ k)) = subst (Multiple (2 ^ 32)) (scaled x (pos w) (pos (2 ^ k))) (times (2 ^ 32) (x -ℤ pos w) (pos (2 ^ k)) (apart x (2 ^ 32) (pow_pos 32))) in
+    let d : Multiple (2 ^ 32) (x *ℤ pos (2 ^ k) -ℤ pos (w * 2 ^ k)) = subst (Multiple (2 ^ 32)) (scaled x (pos w) (pos (2 ^ k)))
+    (times (2 ^ 32) (x -ℤ pos w) (pos (2 ^ k)) (apart x (2 ^ 32) (pow_pos 32))) in
     let e : modulo (x *ℤ pos (2 ^ k)) (2 ^ 32) ≡ (w * 2 ^ k) % 2 ^ 32 = same (x *ℤ pos (2 ^ k)) (pos (w * 2 ^ k)) (2 ^ 32) (pow_pos 32) d in
     eq-eqb (bit_and (modulo (x *ℤ pos (2 ^ k)) (2 ^ 32)) (shift_left a k).known) (shift_left a k).value
     (ap (λ u. bit_and u (shift_left a k).known) e ∙ shifted-under w k a (has a x p))
@@ -171,7 +186,8 @@ quotients x k h =
     let e : pos (2 ^ 32) ≡ pos (2 ^ j) *ℤ pos (2 ^ k) = ap pos (ap (λ n. 2 ^ n) (sym s) ∙ pow-add 2 j k) in
     (d.0, floors x (pos w) (d.0 *ℤ pos (2 ^ j)) (2 ^ k) (pow_pos k) (d.1 ∙ ap (λ z. d.0 *ℤ z) e ∙ sym (mul_assoc d.0 (pos (2 ^ j)) (pos (2 ^ k)))))
 
-pub shifts_right : (a : Bits) (k : ℕ) (x : ℤ) → k < 32 → agrees a x ≡ true → agrees (shift_right a k) (int_div_euclid x (pos (2 ^ k))) ≡ true
+pub shifts_right : (a : Bits) (k : ℕ) (x : ℤ) → k < 32 → agrees a x ≡ true
+    → agrees (shift_right a k) (int_div_euclid x (pos (2 ^ k))) ≡ true
 shifts_right a k x h p =
     let w = modulo x (2 ^ 32) in
     let q = int_div_euclid x (pos (2 ^ k)) in
@@ -180,11 +196,14 @@ shifts_right a k x h p =
     let s : j + k ≡ 32 = omega arith in
     let wide : 2 ^ 32 ≡ 2 ^ (j + k) = ap (λ n. 2 ^ n) (sym s) in
     let b : w < 2 ^ 32 = below x (2 ^ 32) (pow_pos 32) in
-    let small : c < 2 ^ j = shr_below (a.known % 2 ^ 32) j k (subst (λ n. a.known % 2 ^ 32 < n) wide (mod_below a.known (2 ^ 32) (pow_pos 32))) in
+    let small : c < 2 ^ j = shr_below (a.known % 2 ^ 32) j k
+    (subst (λ n. a.known % 2 ^ 32 < n) wide (mod_below a.known (2 ^ 32) (pow_pos 32))) in
     let short : w / 2 ^ k < 2 ^ j = shr_below w j k (subst (λ n. w < n) wide b) in
-    let e : modulo q (2 ^ 32) % 2 ^ j ≡ w / 2 ^ k = coarse q j (omega arith) ∙ same q (pos (w / 2 ^ k)) (2 ^ j) (pow_pos j) (quotients x k h) ∙ mod-eq_of_lt short in
+    let e : modulo q (2 ^ 32) % 2 ^ j ≡ w / 2 ^ k = coarse q j (omega arith)
+    ∙ same q (pos (w / 2 ^ k)) (2 ^ j) (pow_pos j) (quotients x k h) ∙ mod-eq_of_lt short in
     eq-eqb (bit_and (modulo q (2 ^ 32)) c) (a.value / 2 ^ k)
-    (narrow (modulo q (2 ^ 32)) c j small ∙ ap (λ u. bit_and u c) e ∙ sym (and_shr w (a.known % 2 ^ 32) k) ∙ ap (λ u. u / 2 ^ k) (sym (whole w a.known b) ∙ has a x p))
+    (narrow (modulo q (2 ^ 32)) c j small ∙ ap (λ u. bit_and u c) e ∙ sym (and_shr w (a.known % 2 ^ 32) k)
+    ∙ ap (λ u. u / 2 ^ k) (sym (whole w a.known b) ∙ has a x p))
 
 pub left : (a : Bits) (x : ℤ) → agrees a x ≡ true → leaves (residue a) x ≡ true
 left a x p =

@@ -65,11 +65,13 @@ pub differs : (a : Bits) (z : ℤ) (t : ℕ) → t ≤ 32 → a.known % 2 ^ t �
 differs a z t h k p =
     let w = modulo z (2 ^ 32) in
     let e : a.value % 2 ^ t ≡ modulo z (2 ^ t) =
-    ap (λ n. n % 2 ^ t) (sym (has a z p)) ∙ and_mod w a.known t ∙ ap (bit_and (w % 2 ^ t)) k ∙ and_mask (w % 2 ^ t) t ∙ mod-mod w (2 ^ t) ∙ coarse z t h in
+    ap (λ n. n % 2 ^ t) (sym (has a z p)) ∙ and_mod w a.known t ∙ ap (bit_and (w % 2 ^ t)) k ∙ and_mask (w % 2 ^ t) t
+    ∙ mod-mod w (2 ^ t) ∙ coarse z t h in
     multiple z (pos a.value) (2 ^ t) (pow_pos t) (sym e)
 
 pub in_lowest : (t : ℕ) (n z : ℤ) → t ≤ 32 → Multiple (2 ^ t) (z -ℤ n) → agrees (lowest t n) z ≡ true
-in_lowest t n z h d = eq-eqb (bit_and (modulo z (2 ^ 32)) (2 ^ t - 1)) (modulo n (2 ^ t)) (and_mask (modulo z (2 ^ 32)) t ∙ coarse z t h ∙ same z n (2 ^ t) (pow_pos t) d)
+in_lowest t n z h d = eq-eqb (bit_and (modulo z (2 ^ 32)) (2 ^ t - 1)) (modulo n (2 ^ t)) (and_mask (modulo z (2 ^ 32)) t
+    ∙ coarse z t h ∙ same z n (2 ^ t) (pow_pos t) d)
 
 -- ---- how many are known
 pub low-within : (known : ℕ) → low known ≤ 32
@@ -97,7 +99,8 @@ ones-below m h = by (2 ^ 32 - 1 - m) refl
 
 pub low-known : (known : ℕ) → known % 2 ^ low known ≡ 2 ^ low known - 1
 unfolding low
-low-known known = sym (mod-mod_of_dvd (2 ^ low known) known (divides-32 (low known) (low-within known))) ∙ ones-below (known % 2 ^ 32) (mod_below known (2 ^ 32) (pow_pos 32))
+low-known known = sym (mod-mod_of_dvd (2 ^ low known) known (divides-32 (low known) (low-within known)))
+    ∙ ones-below (known % 2 ^ 32) (mod_below known (2 ^ 32) (pow_pos 32))
 
 -- below the places that both know, each knows all
 pub shared-first : (a b : Bits) → a.known % 2 ^ shared a b ≡ 2 ^ shared a b - 1

@@ -22,7 +22,8 @@ pub reduced : (m : ℕ) (r z : ℤ) → Multiple m (z -ℤ r) → leaves (reduce
 reduced m r z h =
     let L : Residue → Type 0 = λ a. leaves a z ≡ true in
     cond_both (m == 0) _ _ L
-    (λ e. cond_both (fits r) (record { modulus = 0; remainder = r }) all L (λ f. to-test 0 (z -ℤ r) (subst (λ n. Multiple n (z -ℤ r)) (eqb-true m 0 e) h)) (λ f. by-one z))
+    (λ e. cond_both (fits r) (record { modulus = 0; remainder = r }) all L
+    (λ f. to-test 0 (z -ℤ r) (subst (λ n. Multiple n (z -ℤ r)) (eqb-true m 0 e) h)) (λ f. by-one z))
     (λ e. cond_both (nat_lt m (2 ^ 63)) (record { modulus = m; remainder = int_rem_euclid r (pos m) }) all L
     (λ f.
     let w : 0 < m = omega (arith, eqb-false m 0 e) in
@@ -43,14 +44,16 @@ adds a b x y p q =
     let g = gcd-is a.modulus b.modulus in
     let u = coarser _ a.modulus (x -ℤ a.remainder) g.0 (from-test a.modulus (x -ℤ a.remainder) p) in
     let v = coarser _ b.modulus (y -ℤ b.remainder) g.1 (from-test b.modulus (y -ℤ b.remainder) q) in
-    reduced (gcd a.modulus b.modulus) (a.remainder +ℤ b.remainder) (x +ℤ y) (at _ ((x -ℤ a.remainder) +ℤ (y -ℤ b.remainder)) ((x +ℤ y) -ℤ (a.remainder +ℤ b.remainder)) (omega (arith, ints)) (plus _ _ _ u v))
+    reduced (gcd a.modulus b.modulus) (a.remainder +ℤ b.remainder) (x +ℤ y) (at _ ((x -ℤ a.remainder) +ℤ (y -ℤ b.remainder))
+    ((x +ℤ y) -ℤ (a.remainder +ℤ b.remainder)) (omega (arith, ints)) (plus _ _ _ u v))
 
 pub subtracts : (a b : Residue) (x y : ℤ) → leaves a x ≡ true → leaves b y ≡ true → leaves (subtract a b) (x -ℤ y) ≡ true
 subtracts a b x y p q =
     let g = gcd-is a.modulus b.modulus in
     let u = coarser _ a.modulus (x -ℤ a.remainder) g.0 (from-test a.modulus (x -ℤ a.remainder) p) in
     let v = coarser _ b.modulus (y -ℤ b.remainder) g.1 (from-test b.modulus (y -ℤ b.remainder) q) in
-    reduced (gcd a.modulus b.modulus) (a.remainder -ℤ b.remainder) (x -ℤ y) (at _ ((x -ℤ a.remainder) -ℤ (y -ℤ b.remainder)) ((x -ℤ y) -ℤ (a.remainder -ℤ b.remainder)) (omega (arith, ints)) (minus _ _ _ u v))
+    reduced (gcd a.modulus b.modulus) (a.remainder -ℤ b.remainder) (x -ℤ y) (at _ ((x -ℤ a.remainder) -ℤ (y -ℤ b.remainder))
+    ((x -ℤ y) -ℤ (a.remainder -ℤ b.remainder)) (omega (arith, ints)) (minus _ _ _ u v))
 
 pub joins : (a b : Residue) (z : ℤ) → (leaves a z ≡ true) ⊎ (leaves b z ≡ true) → leaves (join a b) z ≡ true
 joins a b z (inl p) =
@@ -58,7 +61,8 @@ joins a b z (inl p) =
     let g = gcd-is (gcd a.modulus b.modulus) (unsigned_abs (a.remainder -ℤ b.remainder)) in
     let u = coarser _ a.modulus (z -ℤ a.remainder) (dvd_trans _ g.0 h.0) (from-test a.modulus (z -ℤ a.remainder) p) in
     let v = itself _ (a.remainder -ℤ b.remainder) g.1 in
-    reduced _ b.remainder z (at _ ((z -ℤ a.remainder) +ℤ (a.remainder -ℤ b.remainder)) (z -ℤ b.remainder) (omega (arith, ints)) (plus _ _ _ u v))
+    reduced _ b.remainder z
+    (at _ ((z -ℤ a.remainder) +ℤ (a.remainder -ℤ b.remainder)) (z -ℤ b.remainder) (omega (arith, ints)) (plus _ _ _ u v))
 joins a b z (inr p) =
     let h = gcd-is a.modulus b.modulus in
     let g = gcd-is (gcd a.modulus b.modulus) (unsigned_abs (a.remainder -ℤ b.remainder)) in
@@ -69,7 +73,8 @@ spread : (x y r s : ℤ) → ((x -ℤ r) *ℤ (y -ℤ s) +ℤ (x -ℤ r) *ℤ s)
 spread x y r s =
     let a : (x -ℤ r) *ℤ ((y -ℤ s) +ℤ s) ≡ (x -ℤ r) *ℤ (y -ℤ s) +ℤ (x -ℤ r) *ℤ s = mul-add (x -ℤ r) (y -ℤ s) s in
     let e : (y -ℤ s) +ℤ s ≡ y = omega (arith, ints) in
-    let b : (x -ℤ r) *ℤ y ≡ (x -ℤ r) *ℤ (y -ℤ s) +ℤ (x -ℤ r) *ℤ s = subst (λ z. (x -ℤ r) *ℤ z ≡ (x -ℤ r) *ℤ (y -ℤ s) +ℤ (x -ℤ r) *ℤ s) e a in
+    let b : (x -ℤ r) *ℤ y ≡ (x -ℤ r) *ℤ (y -ℤ s) +ℤ (x -ℤ r) *ℤ s = subst
+    (λ z. (x -ℤ r) *ℤ z ≡ (x -ℤ r) *ℤ (y -ℤ s) +ℤ (x -ℤ r) *ℤ s) e a in
     let c : ((x -ℤ r) +ℤ r) *ℤ y ≡ (x -ℤ r) *ℤ y +ℤ r *ℤ y = add-mul (x -ℤ r) r y in
     let f : (x -ℤ r) +ℤ r ≡ x = omega (arith, ints) in
     let d : x *ℤ y ≡ (x -ℤ r) *ℤ y +ℤ r *ℤ y = subst (λ z. z *ℤ y ≡ (x -ℤ r) *ℤ y +ℤ r *ℤ y) f c in
@@ -87,6 +92,7 @@ multiplies a b x y p q =
     let h = gcd-is (m * n) (m * unsigned_abs s) in
     let g = gcd-is (gcd (m * n) (m * unsigned_abs s)) (n * unsigned_abs r) in
     let one = coarser _ (m * n) ((x -ℤ r) *ℤ (y -ℤ s)) (dvd_trans _ g.0 h.0) (scaled m n _ _ u v) in
-    let two = coarser _ (m * unsigned_abs s) ((x -ℤ r) *ℤ s) (dvd_trans _ g.0 h.1) (scaled m (unsigned_abs s) _ _ u (itself _ s (dvd_refl _))) in
+    let two = coarser _ (m * unsigned_abs s)
+    ((x -ℤ r) *ℤ s) (dvd_trans _ g.0 h.1) (scaled m (unsigned_abs s) _ _ u (itself _ s (dvd_refl _))) in
     let three = coarser _ (n * unsigned_abs r) ((y -ℤ s) *ℤ r) g.1 (scaled n (unsigned_abs r) _ _ v (itself _ r (dvd_refl _))) in
     reduced _ (r *ℤ s) (x *ℤ y) (at _ _ _ (spread x y r s) (plus _ _ _ (plus _ _ _ one two) three))

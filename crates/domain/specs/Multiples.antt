@@ -56,7 +56,8 @@ pub scaled : (m n : ℕ) (x y : ℤ) → Multiple m x → Multiple n y → Multi
 scaled m n x y p q = (
   p.0 *ℤ q.0,
   ap (λ z. z *ℤ y) p.1 ∙ ap (λ z. (p.0 *ℤ pos m) *ℤ z) q.1 ∙ mul_assoc p.0 (pos m) (q.0 *ℤ pos n)
-      ∙ ap (λ z. p.0 *ℤ z) (sym (mul_assoc (pos m) q.0 (pos n)) ∙ ap (λ z. z *ℤ pos n) (mul_comm (pos m) q.0) ∙ mul_assoc q.0 (pos m) (pos n)) ∙ sym (mul_assoc p.0 q.0 (pos m *ℤ pos n)),
+      ∙ ap (λ z. p.0 *ℤ z) (sym (mul_assoc (pos m) q.0 (pos n)) ∙ ap (λ z. z *ℤ pos n) (mul_comm (pos m) q.0)
+      ∙ mul_assoc q.0 (pos m) (pos n)) ∙ sym (mul_assoc p.0 q.0 (pos m *ℤ pos n)),
 )
 
 -- what a number leaves by a modulus

@@ -24,14 +24,16 @@ mul-le_neg k x y h =
     omega (arith, ints, p)
 
 -- a multiple of a member is at most what both ends' multiples are at most
-below_ends : (m : ℤ) (o p : Option ℤ) (y h : ℤ) → Low o y → High p y → (m *ℤ unwrap_or o (neg_ℤ far_factor)) ≤ℤ h → (m *ℤ unwrap_or p far_factor) ≤ℤ h → h ≤ℤ greatest → (m *ℤ y) ≤ℤ h
+below_ends : (m : ℤ) (o p : Option ℤ) (y h : ℤ) → Low o y → High p y → (m *ℤ unwrap_or o (neg_ℤ far_factor)) ≤ℤ h
+    → (m *ℤ unwrap_or p far_factor) ≤ℤ h → h ≤ℤ greatest → (m *ℤ y) ≤ℤ h
 below_ends (pos zero) o p y h lo hi a b f = omega (arith, ints)
 below_ends (pos (suc k)) o None y h lo hi a b f = absurd (omega (arith, ints))
 below_ends (pos (suc k)) o (Some n) y h lo hi a b f = let w = mul-le_pos (suc k) y n hi.2 in omega (arith, ints, w)
 below_ends (negsuc k) None p y h lo hi a b f = absurd (omega (arith, ints))
 below_ends (negsuc k) (Some n) p y h lo hi a b f = let w = mul-le_neg k n y lo.2 in omega (arith, ints, w)
 
-above_ends : (m : ℤ) (o p : Option ℤ) (y h : ℤ) → Low o y → High p y → h ≤ℤ (m *ℤ unwrap_or o (neg_ℤ far_factor)) → h ≤ℤ (m *ℤ unwrap_or p far_factor) → least ≤ℤ h → h ≤ℤ (m *ℤ y)
+above_ends : (m : ℤ) (o p : Option ℤ) (y h : ℤ) → Low o y → High p y → h ≤ℤ (m *ℤ unwrap_or o (neg_ℤ far_factor))
+    → h ≤ℤ (m *ℤ unwrap_or p far_factor) → least ≤ℤ h → h ≤ℤ (m *ℤ y)
 above_ends (pos zero) o p y h lo hi a b f = omega (arith, ints)
 above_ends (pos (suc k)) None p y h lo hi a b f = absurd (omega (arith, ints))
 above_ends (pos (suc k)) (Some n) p y h lo hi a b f = let w = mul-le_pos (suc k) n y lo.2 in omega (arith, ints, w)
@@ -39,26 +41,34 @@ above_ends (negsuc k) o None y h lo hi a b f = absurd (omega (arith, ints))
 above_ends (negsuc k) o (Some n) y h lo hi a b f = let w = mul-le_neg k y n hi.2 in omega (arith, ints, w)
 
 below_corners : (o p q r : Option ℤ) (x y h : ℤ) → Low o x → High p x → Low q y → High r y
-    → (unwrap_or o (neg_ℤ far_factor) *ℤ unwrap_or q (neg_ℤ far_factor)) ≤ℤ h → (unwrap_or o (neg_ℤ far_factor) *ℤ unwrap_or r far_factor) ≤ℤ h
-    → (unwrap_or p far_factor *ℤ unwrap_or q (neg_ℤ far_factor)) ≤ℤ h → (unwrap_or p far_factor *ℤ unwrap_or r far_factor) ≤ℤ h → h ≤ℤ greatest → (x *ℤ y) ≤ℤ h
+    → (unwrap_or o (neg_ℤ far_factor) *ℤ unwrap_or q (neg_ℤ far_factor)) ≤ℤ h
+    → (unwrap_or o (neg_ℤ far_factor) *ℤ unwrap_or r far_factor) ≤ℤ h
+    → (unwrap_or p far_factor *ℤ unwrap_or q (neg_ℤ far_factor)) ≤ℤ h → (unwrap_or p far_factor *ℤ unwrap_or r far_factor) ≤ℤ h
+    → h ≤ℤ greatest → (x *ℤ y) ≤ℤ h
 below_corners o p q r x y h ox px qy ry a b c d f =
     let first = below_ends (unwrap_or o (neg_ℤ far_factor)) q r y h qy ry a b f in
     let second = below_ends (unwrap_or p far_factor) q r y h qy ry c d f in
-    subst (λ z. z ≤ℤ h) (mul_comm y x) (below_ends y o p x h ox px (subst (λ z. z ≤ℤ h) (mul_comm _ y) first) (subst (λ z. z ≤ℤ h) (mul_comm _ y) second) f)
+    subst (λ z. z ≤ℤ h) (mul_comm y x)
+    (below_ends y o p x h ox px (subst (λ z. z ≤ℤ h) (mul_comm _ y) first) (subst (λ z. z ≤ℤ h) (mul_comm _ y) second) f)
 
 above_corners : (o p q r : Option ℤ) (x y h : ℤ) → Low o x → High p x → Low q y → High r y
-    → h ≤ℤ (unwrap_or o (neg_ℤ far_factor) *ℤ unwrap_or q (neg_ℤ far_factor)) → h ≤ℤ (unwrap_or o (neg_ℤ far_factor) *ℤ unwrap_or r far_factor)
-    → h ≤ℤ (unwrap_or p far_factor *ℤ unwrap_or q (neg_ℤ far_factor)) → h ≤ℤ (unwrap_or p far_factor *ℤ unwrap_or r far_factor) → least ≤ℤ h → h ≤ℤ (x *ℤ y)
+    → h ≤ℤ (unwrap_or o (neg_ℤ far_factor) *ℤ unwrap_or q (neg_ℤ far_factor))
+    → h ≤ℤ (unwrap_or o (neg_ℤ far_factor) *ℤ unwrap_or r far_factor)
+    → h ≤ℤ (unwrap_or p far_factor *ℤ unwrap_or q (neg_ℤ far_factor)) → h ≤ℤ (unwrap_or p far_factor *ℤ unwrap_or r far_factor)
+    → least ≤ℤ h → h ≤ℤ (x *ℤ y)
 above_corners o p q r x y h ox px qy ry a b c d f =
     let first = above_ends (unwrap_or o (neg_ℤ far_factor)) q r y h qy ry a b f in
     let second = above_ends (unwrap_or p far_factor) q r y h qy ry c d f in
-    subst (λ z. h ≤ℤ z) (mul_comm y x) (above_ends y o p x h ox px (subst (λ z. h ≤ℤ z) (mul_comm _ y) first) (subst (λ z. h ≤ℤ z) (mul_comm _ y) second) f)
+    subst (λ z. h ≤ℤ z) (mul_comm y x)
+    (above_ends y o p x h ox px (subst (λ z. h ≤ℤ z) (mul_comm _ y) first) (subst (λ z. h ≤ℤ z) (mul_comm _ y) second) f)
 
 -- the least and the greatest of four
-pub least_of : (a b c d : ℤ) → (int_min (int_min a b) (int_min c d) ≤ℤ a) × (int_min (int_min a b) (int_min c d) ≤ℤ b) × (int_min (int_min a b) (int_min c d) ≤ℤ c) × (int_min (int_min a b) (int_min c d) ≤ℤ d)
+pub least_of : (a b c d : ℤ) → (int_min (int_min a b) (int_min c d) ≤ℤ a) × (int_min (int_min a b) (int_min c d) ≤ℤ b)
+    × (int_min (int_min a b) (int_min c d) ≤ℤ c) × (int_min (int_min a b) (int_min c d) ≤ℤ d)
 least_of a b c d = (omega (arith, ints, clamps), omega (arith, ints, clamps), omega (arith, ints, clamps), omega (arith, ints, clamps))
 
-pub greatest_of : (a b c d : ℤ) → (a ≤ℤ int_max (int_max a b) (int_max c d)) × (b ≤ℤ int_max (int_max a b) (int_max c d)) × (c ≤ℤ int_max (int_max a b) (int_max c d)) × (d ≤ℤ int_max (int_max a b) (int_max c d))
+pub greatest_of : (a b c d : ℤ) → (a ≤ℤ int_max (int_max a b) (int_max c d)) × (b ≤ℤ int_max (int_max a b) (int_max c d))
+    × (c ≤ℤ int_max (int_max a b) (int_max c d)) × (d ≤ℤ int_max (int_max a b) (int_max c d))
 greatest_of a b c d = (omega (arith, ints, clamps), omega (arith, ints, clamps), omega (arith, ints, clamps), omega (arith, ints, clamps))
 
 pub multiplies : (a b : Bounds) (x y : ℤ) → is_member a x ≡ true → is_member b y ≡ true → is_member (multiply a b) (x *ℤ y) ≡ true

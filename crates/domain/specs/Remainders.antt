@@ -24,7 +24,8 @@ sign : (x y : ℤ) → (int_min (pos 0) x ≤ℤ int_rem x y) × (int_rem x y �
 sign (pos a) y = let u = mod-le a (unsigned_abs y) in (omega (arith, ints, clamps), omega (arith, ints, clamps))
 sign (negsuc a) y = let u = mod-le (suc a) (unsigned_abs y) in (omega (arith, ints, clamps), omega (arith, ints, clamps))
 
-remainders_hold : (a b : Bounds) (x y : ℤ) → is_member a x ≡ true → is_member b y ≡ true → ¬ (y ≡ pos 0) → is_member (remainders (low_of far a) (high_of far a) (int_max (neg_ℤ (low_of far b)) (high_of far b) -ℤ pos 1)) (int_rem x y) ≡ true
+remainders_hold : (a b : Bounds) (x y : ℤ) → is_member a x ≡ true → is_member b y ≡ true → ¬ (y ≡ pos 0) → is_member
+    (remainders (low_of far a) (high_of far a) (int_max (neg_ℤ (low_of far b)) (high_of far b) -ℤ pos 1)) (int_rem x y) ≡ true
 remainders_hold a b x y p q z =
     let la = low-far a.low x (member a x p).0 in
     let lb = low-far b.low y (member b y q).0 in
@@ -34,20 +35,29 @@ remainders_hold a b x y p q z =
     let s = sign x y in
     let r = rem_below x y (below-divisor y z) in
     in_span _ _ _
-    (cond_both (int_le (pos 0) (low_of far a)) (pos 0) (int_max (low_of far a) (neg_ℤ m)) (λ l. least ≤ℤ l → l ≤ℤ greatest → l ≤ℤ int_rem x y) (λ e f g. omega (arith, ints, clamps, la)) (λ e f g. omega (arith, ints, clamps, la, lb, hb, r)))
-    (cond_both (int_le (high_of far a) (pos 0)) (pos 0) (int_min (high_of far a) m) (λ h. least ≤ℤ h → h ≤ℤ greatest → int_rem x y ≤ℤ h) (λ e f g. omega (arith, ints, clamps, ha)) (λ e f g. omega (arith, ints, clamps, ha, lb, hb, r)))
+    (cond_both (int_le (pos 0) (low_of far a)) (pos 0) (int_max (low_of far a) (neg_ℤ m))
+    (λ l. least ≤ℤ l → l ≤ℤ greatest → l ≤ℤ int_rem x y) (λ e f g. omega (arith, ints, clamps, la))
+    (λ e f g. omega (arith, ints, clamps, la, lb, hb, r)))
+    (cond_both (int_le (high_of far a) (pos 0)) (pos 0) (int_min (high_of far a) m)
+    (λ h. least ≤ℤ h → h ≤ℤ greatest → int_rem x y ≤ℤ h) (λ e f g. omega (arith, ints, clamps, ha))
+    (λ e f g. omega (arith, ints, clamps, ha, lb, hb, r)))
 
-pub remains : (a b : Bounds) (x y : ℤ) → is_member a x ≡ true → is_member b y ≡ true → ¬ (y ≡ pos 0) → is_member (remainder a b) (int_rem x y) ≡ true
-remains a b x y p q z = cond_both (is_zero (low_of far b) (high_of far b)) all _ (λ c. is_member c (int_rem x y) ≡ true) (λ e. refl) (λ e. remainders_hold a b x y p q z)
+pub remains : (a b : Bounds) (x y : ℤ) → is_member a x ≡ true → is_member b y ≡ true → ¬ (y ≡ pos 0)
+    → is_member (remainder a b) (int_rem x y) ≡ true
+remains a b x y p q z = cond_both (is_zero (low_of far b) (high_of far b)) all _
+    (λ c. is_member c (int_rem x y) ≡ true) (λ e. refl) (λ e. remainders_hold a b x y p q z)
 
-pub masks : (a b : Bounds) (m n : ℕ) → is_member a (pos m) ≡ true → is_member b (pos n) ≡ true → is_member (mask a b) (pos (bit_and m n)) ≡ true
+pub masks : (a b : Bounds) (m n : ℕ) → is_member a (pos m) ≡ true → is_member b (pos n) ≡ true
+    → is_member (mask a b) (pos (bit_and m n)) ≡ true
 masks a b m n p q =
     let ha = high-far a.high (pos m) (member a (pos m) p).1 in
     let hb = high-far b.high (pos n) (member b (pos n) q).1 in
     let u = and_le_l m n in
     let v = and_le_r m n in
-    cond_both (int_le (pos 0) (low_of far a) && int_le (pos 0) (low_of far b)) (span (pos 0) (int_min (high_of far a) (high_of far b))) all (λ c. is_member c (pos (bit_and m n)) ≡ true)
-    (λ e. in_span (pos 0) (int_min (high_of far a) (high_of far b)) (pos (bit_and m n)) (λ f g. omega (arith, ints)) (λ f g. omega (arith, ints, clamps, ha, hb))) (λ e. refl)
+    cond_both (int_le (pos 0) (low_of far a) && int_le (pos 0) (low_of far b))
+    (span (pos 0) (int_min (high_of far a) (high_of far b))) all (λ c. is_member c (pos (bit_and m n)) ≡ true)
+    (λ e. in_span (pos 0) (int_min (high_of far a) (high_of far b)) (pos (bit_and m n))
+    (λ f g. omega (arith, ints)) (λ f g. omega (arith, ints, clamps, ha, hb))) (λ e. refl)
 
 -- rounding down keeps an order, and stays as near to 0
 floor-le : (n x : ℤ) (d : ℕ) → 0 < d → n ≤ℤ x → int_div_euclid n (pos d) ≤ℤ int_div_euclid x (pos d)
@@ -69,7 +79,8 @@ high-shifted None k x h = tt
 high-shifted (Some n) k x h = let f = floor-fits n (2 ^ k) h.0 h.1 in (f.0, f.1, floor-le x n (2 ^ k) (pow_pos k) h.2)
 
 pub shifts_right : (a : Bounds) (k : ℕ) (x : ℤ) → is_member a x ≡ true → is_member (shift_right a k) (int_div_euclid x (pos (2 ^ k))) ≡ true
-shifts_right a k x p = member-in (shifted a.low k) (shifted a.high k) _ (low-shifted a.low k x (member a x p).0) (high-shifted a.high k x (member a x p).1)
+shifts_right a k x p = member-in (shifted a.low k) (shifted a.high k) _
+    (low-shifted a.low k x (member a x p).0) (high-shifted a.high k x (member a x p).1)
 
 pub one : (n : ℤ) → is_member (span n n) n ≡ true
 one n = in_span n n n (λ s t. omega (arith, ints)) (λ s t. omega (arith, ints))
@@ -94,7 +105,8 @@ leaves_single (Some l) (Some h) x p q =
 pub left : (a : Bounds) (x : ℤ) → is_member a x ≡ true → leaves (residue a) x ≡ true
 left a x p = leaves_single a.low a.high x (member a x p).0 (member a x p).1
 
-pub shifted-ordered : (low high : Option ℤ) (k : ℕ) → IsOrdered (record { low = low; high = high }) → IsOrdered (record { low = shifted low k; high = shifted high k })
+pub shifted-ordered : (low high : Option ℤ) (k : ℕ) → IsOrdered (record { low = low; high = high })
+    → IsOrdered (record { low = shifted low k; high = shifted high k })
 shifted-ordered None high k h = tt
 shifted-ordered (Some l) None k h = tt
 shifted-ordered (Some l) (Some r) k h = floor-le l r (2 ^ k) (pow_pos k) h

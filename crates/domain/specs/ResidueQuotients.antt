@@ -31,7 +31,8 @@ none (negsuc n) h = absurd (omega arith)
 -- factors whose products are less apart than the other factor are one
 cancelled : (x y d : ℤ) → unsigned_abs (x *ℤ d -ℤ y *ℤ d) < unsigned_abs d → x ≡ y
 cancelled x y d h =
-    let e : (x -ℤ y) *ℤ d +ℤ y *ℤ d ≡ x *ℤ d = sym (add-mul (x -ℤ y) y d) ∙ ap (λ z. z *ℤ d) (let s : (x -ℤ y) +ℤ y ≡ x = omega (arith, ints) in s) in
+    let e : (x -ℤ y) *ℤ d +ℤ y *ℤ d ≡ x *ℤ d = sym (add-mul (x -ℤ y) y d)
+    ∙ ap (λ z. z *ℤ d) (let s : (x -ℤ y) +ℤ y ≡ x = omega (arith, ints) in s) in
     let f : x *ℤ d -ℤ y *ℤ d ≡ (x -ℤ y) *ℤ d = omega (arith, ints, e) in
     let g : unsigned_abs (x *ℤ d -ℤ y *ℤ d) ≡ unsigned_abs (x -ℤ y) * unsigned_abs d = ap unsigned_abs f ∙ unsigned_abs-mul (x -ℤ y) d in
     let z = none (x -ℤ y) (small (unsigned_abs (x -ℤ y)) (unsigned_abs d) (subst (λ n. n < unsigned_abs d) g h)) in
@@ -48,14 +49,17 @@ exact e d h =
 signed : (d z w : ℤ) → z ≡ w *ℤ pos (unsigned_abs d) → (e : ℤ) × (z ≡ e *ℤ d) × ((m : ℕ) → Multiple m w → Multiple m e)
 signed (pos k) z w h = (w, h, λ m p. p)
 signed (negsuc k) z w h =
-    let c : (negsuc 0 *ℤ w) *ℤ negsuc k ≡ w *ℤ (negsuc 0 *ℤ negsuc k) = ap (λ x. x *ℤ negsuc k) (mul_comm (negsuc 0) w) ∙ mul_assoc w (negsuc 0) (negsuc k) in
+    let c : (negsuc 0 *ℤ w) *ℤ negsuc k ≡ w *ℤ (negsuc 0 *ℤ negsuc k) = ap (λ x. x *ℤ negsuc k) (mul_comm (negsuc 0) w)
+    ∙ mul_assoc w (negsuc 0) (negsuc k) in
     let f : negsuc 0 *ℤ negsuc k ≡ pos (suc k) = omega (arith, ints) in
     (negsuc 0 *ℤ w, h ∙ sym (c ∙ ap (λ x. w *ℤ x) f), λ m p. times m w (negsuc 0) p)
 
-parted : (m n : ℕ) (x r d : ℤ) → unsigned_abs d ≡ n → 0 < n → n ∣ m → Multiple n r → Multiple m (x -ℤ r) → Multiple (m / n) (int_div x d -ℤ int_div r d)
+parted : (m n : ℕ) (x r d : ℤ) → unsigned_abs d ≡ n → 0 < n → n ∣ m → Multiple n r
+    → Multiple m (x -ℤ r) → Multiple (m / n) (int_div x d -ℤ int_div r d)
 parted m n x r d a z h p q =
     let c : pos m ≡ pos (m / n) *ℤ pos n = ap pos (divided n m h) in
-    let u : x -ℤ r ≡ (q.0 *ℤ pos (m / n)) *ℤ pos (unsigned_abs d) = q.1 ∙ ap (λ k. q.0 *ℤ k) c ∙ sym (mul_assoc q.0 (pos (m / n)) (pos n)) ∙ ap (λ k. (q.0 *ℤ pos (m / n)) *ℤ pos k) (sym a) in
+    let u : x -ℤ r ≡ (q.0 *ℤ pos (m / n)) *ℤ pos (unsigned_abs d) = q.1
+    ∙ ap (λ k. q.0 *ℤ k) c ∙ sym (mul_assoc q.0 (pos (m / n)) (pos n)) ∙ ap (λ k. (q.0 *ℤ pos (m / n)) *ℤ pos k) (sym a) in
     let v : r ≡ p.0 *ℤ pos (unsigned_abs d) = p.1 ∙ ap (λ k. p.0 *ℤ pos k) (sym a) in
     let e = signed d (x -ℤ r) (q.0 *ℤ pos (m / n)) u in
     let s = signed d r p.0 v in
@@ -76,10 +80,13 @@ quotient_holds a d x z p =
     (λ e. cond_both (divides (unsigned_abs d) a) _ all L
     (λ f.
     let h = and_parts (a.modulus % unsigned_abs d == 0) (unsigned_abs a.remainder % unsigned_abs d == 0) f in
-    reduced _ (int_div a.remainder d) (int_div x d) (parted a.modulus (unsigned_abs d) x a.remainder d refl z (dvd_of_mod-eq-zero _ (eqb-true _ 0 h.0)) (from-test (unsigned_abs d) a.remainder h.1) (from-test a.modulus (x -ℤ a.remainder) p)))
+    reduced _ (int_div a.remainder d) (int_div x d)
+    (parted a.modulus (unsigned_abs d) x a.remainder d refl z (dvd_of_mod-eq-zero _ (eqb-true _ 0 h.0))
+    (from-test (unsigned_abs d) a.remainder h.1) (from-test a.modulus (x -ℤ a.remainder) p)))
     (λ f. all_holds (int_div x d)))
 
-pub divides_all : (a b : Residue) (x y : ℤ) → leaves a x ≡ true → leaves b y ≡ true → ¬ (y ≡ pos 0) → leaves (divide a b) (int_div x y) ≡ true
+pub divides_all : (a b : Residue) (x y : ℤ) → leaves a x ≡ true → leaves b y ≡ true → ¬ (y ≡ pos 0)
+    → leaves (divide a b) (int_div x y) ≡ true
 divides_all a b x y p q z =
     cond_both (is_divisor b) (quotient a b.remainder) all (λ c. leaves c (int_div x y) ≡ true)
     (λ e.
@@ -88,7 +95,8 @@ divides_all a b x y p q z =
     subst (λ d. leaves (quotient a b.remainder) (int_div x d) ≡ true) (sym s) (quotient_holds a b.remainder x (ltb-true 0 _ h.1) p))
     (λ e. all_holds (int_div x y))
 
-remainder_holds : (a b : Residue) (x y : ℤ) → leaves a x ≡ true → leaves b y ≡ true → leaves (reduce (common a b) a.remainder) (int_rem x y) ≡ true
+remainder_holds : (a b : Residue) (x y : ℤ) → leaves a x ≡ true → leaves b y ≡ true
+    → leaves (reduce (common a b) a.remainder) (int_rem x y) ≡ true
 remainder_holds a b x y p q =
     let h = gcd-is a.modulus b.modulus in
     let g = gcd-is (gcd a.modulus b.modulus) (unsigned_abs b.remainder) in
@@ -101,14 +109,16 @@ remainder_holds a b x y p q =
     let i : (x -ℤ a.remainder) -ℤ int_div x y *ℤ y ≡ int_rem x y -ℤ a.remainder = omega (arith, ints, r) in
     reduced (common a b) a.remainder (int_rem x y) (subst (Multiple (common a b)) i (minus _ _ _ u t))
 
-pub remains : (a b : Residue) (x y : ℤ) → leaves a x ≡ true → leaves b y ≡ true → ¬ (y ≡ pos 0) → leaves (remainder a b) (int_rem x y) ≡ true
+pub remains : (a b : Residue) (x y : ℤ) → leaves a x ≡ true
+    → leaves b y ≡ true → ¬ (y ≡ pos 0) → leaves (remainder a b) (int_rem x y) ≡ true
 remains a b x y p q z =
     let L : Residue → Type 0 = λ c. leaves c (int_rem x y) ≡ true in
     cond_both (is_zero b) all _ L (λ e. all_holds (int_rem x y)) (λ o. cond_both (a.modulus == 0 && is_divisor b) _ _ L
     (λ e.
     let h = and_parts (a.modulus == 0) (is_divisor b) e in
     let i = and_parts (b.modulus == 0) (nat_lt 0 (unsigned_abs b.remainder)) h.1 in
-    subst (λ n. leaves (reduce 0 n) (int_rem x y) ≡ true) (ap (λ n. int_rem n y) (single a x h.0 p) ∙ ap (int_rem a.remainder) (single b y i.0 q)) (number (int_rem x y)))
+    subst (λ n. leaves (reduce 0 n) (int_rem x y) ≡ true)
+    (ap (λ n. int_rem n y) (single a x h.0 p) ∙ ap (int_rem a.remainder) (single b y i.0 q)) (number (int_rem x y)))
     (λ e. remainder_holds a b x y p q))
 
 pub masks : (a b : Residue) (m n : ℕ) → leaves a (pos m) ≡ true → leaves b (pos n) ≡ true → leaves (mask a b) (pos (bit_and m n)) ≡ true
@@ -116,16 +126,21 @@ masks a b m n p q =
     cond_both (a.modulus == 0 && b.modulus == 0) _ all (λ c. leaves c (pos (bit_and m n)) ≡ true)
     (λ e.
     let h = and_parts (a.modulus == 0) (b.modulus == 0) e in
-    subst (λ z. leaves (reduce 0 z) (pos (bit_and m n)) ≡ true) (ap (λ z. masked z (pos n)) (single a (pos m) h.0 p) ∙ ap (masked a.remainder) (single b (pos n) h.1 q)) (number (pos (bit_and m n))))
+    subst (λ z. leaves (reduce 0 z) (pos (bit_and m n)) ≡ true) (ap (λ z. masked z (pos n)) (single a (pos m) h.0 p)
+    ∙ ap (masked a.remainder) (single b (pos n) h.1 q)) (number (pos (bit_and m n))))
     (λ e. all_holds (pos (bit_and m n)))
 
 pub shifts_left : (a : Residue) (k : ℕ) (x : ℤ) → leaves a x ≡ true → leaves (shift_left a k) (x *ℤ pos (2 ^ k)) ≡ true
-shifts_left a k x p = multiplies a (record { modulus = 0; remainder = pos (2 ^ k) }) x (pos (2 ^ k)) p (to-test 0 (pos (2 ^ k) -ℤ pos (2 ^ k)) (pos 0, omega (arith, ints)))
+shifts_left a k x p = multiplies a (record { modulus = 0; remainder = pos (2 ^ k) }) x (pos (2 ^ k)) p
+    (to-test 0 (pos (2 ^ k) -ℤ pos (2 ^ k)) (pos 0, omega (arith, ints)))
 
 -- a number is its quotient rounded down, times the divisor, and what is left
-floor-is : (r : ℤ) (m : ℕ) → 0 < m → (r -ℤ int_div_euclid r (pos m) *ℤ pos m ≡ int_rem_euclid r (pos m)) × (pos 0 ≤ℤ int_rem_euclid r (pos m)) × (int_rem_euclid r (pos m) <ℤ pos m)
-floor-is (pos a) m h = let e = div-add-mod' a m in let f = mod_below a m h in (omega (arith, ints), omega (arith, ints), omega (arith, ints))
-floor-is (negsuc a) m h = let e = div-add-mod' a m in let f = mod_below a m h in (omega (arith, ints), omega (arith, ints), omega (arith, ints))
+floor-is : (r : ℤ) (m : ℕ) → 0 < m → (r -ℤ int_div_euclid r (pos m) *ℤ pos m ≡ int_rem_euclid r (pos m))
+    × (pos 0 ≤ℤ int_rem_euclid r (pos m)) × (int_rem_euclid r (pos m) <ℤ pos m)
+floor-is (pos a) m h = let e = div-add-mod' a m in let f = mod_below a m h in
+    (omega (arith, ints), omega (arith, ints), omega (arith, ints))
+floor-is (negsuc a) m h = let e = div-add-mod' a m in let f = mod_below a m h in
+    (omega (arith, ints), omega (arith, ints), omega (arith, ints))
 
 size : (z : ℤ) (n : ℕ) → z <ℤ pos n → neg_ℤ (pos n) <ℤ z → unsigned_abs z < n
 size (pos a) n p q = omega (arith, ints)
@@ -137,7 +152,10 @@ floors x r t m h e =
     let fr = floor-is r m h in
     let a = fx.0 in let b = fx.1 in let c = fx.2 in let d = fr.0 in let f = fr.1 in let g = fr.2 in
     let s = add-mul t (int_div_euclid r (pos m)) (pos m) in
-    let k : int_div_euclid x (pos m) ≡ t +ℤ int_div_euclid r (pos m) = cancelled (int_div_euclid x (pos m)) (t +ℤ int_div_euclid r (pos m)) (pos m) (size (int_div_euclid x (pos m) *ℤ pos m -ℤ (t +ℤ int_div_euclid r (pos m)) *ℤ pos m) m (omega (arith, ints, s)) (omega (arith, ints, s))) in
+    let k : int_div_euclid x (pos m)
+    ≡ t +ℤ int_div_euclid r (pos m) = cancelled (int_div_euclid x (pos m)) (t +ℤ int_div_euclid r (pos m)) (pos m)
+    (size (int_div_euclid x (pos m) *ℤ pos m -ℤ (t +ℤ int_div_euclid r (pos m)) *ℤ pos m) m (omega (arith, ints, s))
+    (omega (arith, ints, s))) in
     omega (arith, ints, k)
 
 pub shifts_right : (a : Residue) (k : ℕ) (x : ℤ) → leaves a x ≡ true → leaves (shift_right a k) (int_div_euclid x (pos (2 ^ k))) ≡ true
@@ -148,11 +166,13 @@ shifts_right a k x p =
     let q = from-test a.modulus (x -ℤ a.remainder) p in
     let c : pos a.modulus ≡ pos (a.modulus / n) *ℤ pos n = ap pos (divided n a.modulus (dvd_of_mod-eq-zero _ (eqb-true _ 0 e))) in
     let u = q.1 ∙ ap (λ z. q.0 *ℤ z) c ∙ sym (mul_assoc q.0 (pos (a.modulus / n)) (pos n)) in
-    reduced (a.modulus / n) (int_div_euclid a.remainder (pos n)) (int_div_euclid x (pos n)) (q.0, floors x a.remainder (q.0 *ℤ pos (a.modulus / n)) n (pow_pos k) u))
+    reduced (a.modulus / n) (int_div_euclid a.remainder (pos n))
+    (int_div_euclid x (pos n)) (q.0, floors x a.remainder (q.0 *ℤ pos (a.modulus / n)) n (pow_pos k) u))
     (λ e. all_holds (int_div_euclid x (pos n)))
 
 le-self : (z r : ℤ) → z ≡ r → (int_le r z && int_le z r) ≡ true
 le-self z r e = and_from (int_le r z) (int_le z r) (grind (arith, ints)) (grind (arith, ints))
 
 pub within : (a : Residue) (x : ℤ) → leaves a x ≡ true → is_within (bounds a) x ≡ true
-within a x p = cond_both (a.modulus == 0) (record { low = Some a.remainder; high = Some a.remainder }) (record { low = None; high = None }) (λ b. is_within b x ≡ true) (λ e. le-self x a.remainder (single a x e p)) (λ e. refl)
+within a x p = cond_both (a.modulus == 0) (record { low = Some a.remainder; high = Some a.remainder })
+    (record { low = None; high = None }) (λ b. is_within b x ≡ true) (λ e. le-self x a.remainder (single a x e p)) (λ e. refl)

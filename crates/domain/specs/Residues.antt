@@ -21,7 +21,8 @@ fits n = int_le (negsuc (2 ^ 63 - 1)) n && int_le n (pos (2 ^ 63 - 1))
 
 -- all numbers where the modulus or the number leaves i64
 abbrev pub reduce : ℕ → ℤ → Residue
-reduce m r = cond (m == 0) (cond (fits r) (record { modulus = 0; remainder = r }) all) (cond (nat_lt m (2 ^ 63)) (record { modulus = m; remainder = int_rem_euclid r (pos m) }) all)
+reduce m r = cond (m == 0) (cond (fits r) (record { modulus = 0; remainder = r }) all)
+    (cond (nat_lt m (2 ^ 63)) (record { modulus = m; remainder = int_rem_euclid r (pos m) }) all)
 
 -- Euclid's steps, of which no more are needed than the second number and one
 abbrev pub steps : ℕ → ℕ → ℕ → ℕ
@@ -41,7 +42,9 @@ abbrev pub subtract : Residue → Residue → Residue
 subtract a b = reduce (gcd a.modulus b.modulus) (a.remainder -ℤ b.remainder)
 
 abbrev pub multiply : Residue → Residue → Residue
-multiply a b = reduce (gcd (gcd (a.modulus * b.modulus) (a.modulus * unsigned_abs b.remainder)) (b.modulus * unsigned_abs a.remainder)) (a.remainder *ℤ b.remainder)
+multiply a b = reduce
+    (gcd (gcd (a.modulus * b.modulus) (a.modulus * unsigned_abs b.remainder)) (b.modulus * unsigned_abs a.remainder))
+    (a.remainder *ℤ b.remainder)
 
 -- one number other than 0
 abbrev pub is_divisor : Residue → Bool
@@ -52,7 +55,8 @@ abbrev pub divides : ℕ → Residue → Bool
 divides d a = a.modulus % d == 0 && unsigned_abs a.remainder % d == 0
 
 abbrev pub quotient : Residue → ℤ → Residue
-quotient a d = cond (a.modulus == 0) (reduce 0 (int_div a.remainder d)) (cond (divides (unsigned_abs d) a) (reduce (a.modulus / unsigned_abs d) (int_div a.remainder d)) all)
+quotient a d = cond (a.modulus == 0) (reduce 0 (int_div a.remainder d))
+    (cond (divides (unsigned_abs d) a) (reduce (a.modulus / unsigned_abs d) (int_div a.remainder d)) all)
 
 abbrev pub divide : Residue → Residue → Residue
 divide a b = cond (is_divisor b) (quotient a b.remainder) all
@@ -65,7 +69,8 @@ abbrev pub is_zero : Residue → Bool
 is_zero b = b.modulus == 0 && unsigned_abs b.remainder == 0
 
 abbrev pub remainder : Residue → Residue → Residue
-remainder a b = cond (is_zero b) all (cond (a.modulus == 0 && is_divisor b) (reduce 0 (int_rem a.remainder b.remainder)) (reduce (common a b) a.remainder))
+remainder a b = cond (is_zero b) all
+    (cond (a.modulus == 0 && is_divisor b) (reduce 0 (int_rem a.remainder b.remainder)) (reduce (common a b) a.remainder))
 
 abbrev pub masked : ℤ → ℤ → ℤ
 masked (pos m) (pos n) = pos (bit_and m n)

@@ -277,7 +277,7 @@ fn magnitude(number: i64) -> u128
     number.unsigned_abs() as u128
 }
 
-/// How far apart two numbers are.
+/// The distance of two numbers, which may pass `i64`.
 fn distance(a: i64, b: i64) -> u128
     ensures { result ≡ unsigned_abs (a -ℤ b) }
 {

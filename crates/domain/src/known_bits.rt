@@ -212,7 +212,7 @@ fn lowest(count: u32, word: u32) -> KnownBits
     }
 }
 
-/// How many places from the lowest on are known without a gap.
+/// The number of lowest bits that are known without a gap.
 fn low(known: u32) -> u32
     ensures value { result ≡ low known }
     ensures within { result ≤ 32 }

@@ -22,7 +22,7 @@ use interval::Interval;
 use known_bits::KnownBits;
 use product::Product;
 
-/// What the checker knows of a term: its range, its remainder by a modulus, and bits of it.
+/// The checker's domain: the range of a term, its remainder by a modulus, and known bits of it.
 pub type Elements = Product<Product<Interval, Congruence>, KnownBits>;
 
 /// The ends of a set; `None` is open.
@@ -152,7 +152,8 @@ pub trait Domain: Copy {
 
     ghost rem_holds: { (a b : Self) (x y : ℤ) → has a x ≡ true → has b y ≡ true → ¬ (y ≡ pos 0) → has (rem_of a b) (int_rem x y) ≡ true };
 
-    ghost mask_holds: { (a b : Self) (m n : ℕ) → has a (pos m) ≡ true → has b (pos n) ≡ true → has (mask_of a b) (pos (bit_and m n)) ≡ true };
+    ghost mask_holds: { (a b : Self) (m n : ℕ) → has a (pos m) ≡ true → has b (pos n) ≡ true
+        → has (mask_of a b) (pos (bit_and m n)) ≡ true };
 
     ghost shl_holds: { (a : Self) (k : ℕ) (x : ℤ) → k < 32 → has a x ≡ true → has (shl_of a k) (x *ℤ pos (2 ^ k)) ≡ true };
 

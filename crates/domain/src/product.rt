@@ -170,9 +170,11 @@ impl<A: Domain, B: Domain> Domain for Product<A, B> {
 
     ghost mul_holds = { λ a b x y. both_two (A.mul_holds a.first b.first x y) (B.mul_holds a.second b.second x y) };
 
-    ghost div_holds = { λ a b x y p q z. both_two (λ u v. A.div_holds a.first b.first x y u v z) (λ u v. B.div_holds a.second b.second x y u v z) p q };
+    ghost div_holds = { λ a b x y p q z. both_two (λ u v. A.div_holds a.first b.first x y u v z)
+        (λ u v. B.div_holds a.second b.second x y u v z) p q };
 
-    ghost rem_holds = { λ a b x y p q z. both_two (λ u v. A.rem_holds a.first b.first x y u v z) (λ u v. B.rem_holds a.second b.second x y u v z) p q };
+    ghost rem_holds = { λ a b x y p q z. both_two (λ u v. A.rem_holds a.first b.first x y u v z)
+        (λ u v. B.rem_holds a.second b.second x y u v z) p q };
 
     ghost mask_holds = { λ a b m n. both_two (A.mask_holds a.first b.first m n) (B.mask_holds a.second b.second m n) };
 
@@ -184,9 +186,11 @@ impl<A: Domain, B: Domain> Domain for Product<A, B> {
 
     ghost at_most_holds = { λ a n x p h. both (λ u. A.at_most_holds a.first n x u h) (λ u. B.at_most_holds a.second n x u h) p };
 
-    ghost bounds_hold = { λ a x p. let u = and_parts _ _ p in within (A.bounds_of a.first) (B.bounds_of a.second) x (A.bounds_hold a.first x u.0) (B.bounds_hold a.second x u.1) };
+    ghost bounds_hold = { λ a x p. let u = and_parts _ _ p in
+        within (A.bounds_of a.first) (B.bounds_of a.second) x (A.bounds_hold a.first x u.0) (B.bounds_hold a.second x u.1) };
 
-    ghost residue_holds = { λ a x p. let u = and_parts _ _ p in left (A.residue_of a.first) (B.residue_of a.second) x (A.residue_holds a.first x u.0) (B.residue_holds a.second x u.1) };
+    ghost residue_holds = { λ a x p. let u = and_parts _ _ p in
+        left (A.residue_of a.first) (B.residue_of a.second) x (A.residue_holds a.first x u.0) (B.residue_holds a.second x u.1) };
 }
 
 /// The larger of two lower ends.

@@ -4,7 +4,7 @@ use crate::hand::Premises;
 use crate::said::Said;
 use std::alloc::Global;
 
-/// What is known of every launch, and what a certificate says of the kernel beside its entries.
+/// The context of each obligation: the facts of every launch, and the notes of the certificate beside its entries.
 #[derive(Drop)]
 pub struct Asked<'a, D> {
     pub alloc: Global,

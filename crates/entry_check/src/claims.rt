@@ -21,7 +21,7 @@ use std::alloc::Global;
 use two_thread::{Met, Tagged, try_denials};
 use walk::{FindError, Paths, Terrain, alone};
 
-/// What denies the claims of the paths that are held is of `i64`.
+/// Whether the denial of each claim of the paths that are held has numbers of `i64` alone.
 fn is_denied_held<D: Domain>(alloc: Global, met: &Met<D>) -> Result<bool, WalkError>
     ensures exact { IfOk result (λ b. b ≡ claims_fit (met_claims met.now)) }
     ensures memory { IfErr result IsMemory }
@@ -33,7 +33,7 @@ fn is_denied_held<D: Domain>(alloc: Global, met: &Met<D>) -> Result<bool, WalkEr
     }
 }
 
-/// What denies the claims of a path is of `i64`.
+/// Whether the denial of each claim of a path has numbers of `i64` alone.
 fn is_denied<D: Domain>(alloc: Global, path: Tagged<D>) -> Result<bool, WalkError>
     requires accesses { all_own_accesses (accesses_seen path) ≡ true }
     requires ends { all_own_ends (ends_seen path) ≡ true }
@@ -44,8 +44,8 @@ fn is_denied<D: Domain>(alloc: Global, path: Tagged<D>) -> Result<bool, WalkErro
     is_denied_held(alloc, &met)
 }
 
-/// What denies the claims of the paths that are left is of `i64`. They are gone along to the last, so what a walk refuses comes before any
-/// obligation.
+/// Whether the denial of each claim of the paths that are left has numbers of `i64` alone. All paths are walked, so a
+/// refusal of the walk comes before any obligation.
 fn are_denied_behind<D: Domain>(
     terrain: &Terrain<'_, D>,
     next: &mut Paths,
@@ -65,7 +65,7 @@ fn are_denied_behind<D: Domain>(
     Ok(all)
 }
 
-/// What denies the claims of all paths is of `i64`, of those that are held and of those behind them.
+/// Whether the denial of each claim of all paths, held or behind these, has numbers of `i64` alone.
 pub fn are_denied<D: Domain>(
     terrain: &Terrain<'_, D>,
     met: &Met<D>,

@@ -70,7 +70,7 @@ fn lines_of(alloc: Global, steps: &[Step]) -> Result<Vec<Line>, AllocError>
     Ok(lines)
 }
 
-/// What a lemma says in symbols; none where it names what the kernel lacks.
+/// The form of a lemma over the symbols of the kernel; none where it names something that the kernel lacks.
 fn form_of(alloc: Global, names: &Names<'_>, form: &tree::Form) -> Result<Option<Form>, AllocError>
     ensures { IfOk result (λ r. option_map form_seen r ≡ stated_seen names.now (names_seen form.now)) }
 {
@@ -157,7 +157,7 @@ fn are_few(lemmas: &[tree::Lemma], own: usize) -> bool
     lemmas.len() <= 64 && fit(lemmas, own)
 }
 
-/// How an entry of a sort shows an obligation.
+/// The manner in which an entry of a sort shows its obligation.
 pub fn manner_of(sort: &EntrySort) -> Manner
     ensures { manner_seen result ≡ entries.manner_of (sort_seen sort.now) }
 {

@@ -15,7 +15,7 @@ pub enum Pointer {
     Number(u64),
 }
 
-/// Why what is to be shown of a kernel is not shown, or want of memory.
+/// The reasons for which an obligation of a kernel is not shown, and want of memory.
 #[derive(Debug, Drop, Error)]
 pub enum ShowError {
     /// An obligation is not shown; 0 where the certificate tells of what the kernel lacks, or has an entry past the last.

@@ -21,7 +21,8 @@ pub enum Owed {
     Accesses(Crossing),
 }
 
-/// What is known of every launch: its facts, what the domain knows of its symbols, and the slots that two items have alike.
+/// The premises of all obligations: the facts of every launch, the domain's elements of its symbols, and the slots that
+/// two items have alike.
 #[derive(Drop)]
 pub struct Premises<'a, D> {
     pub launch: &'a [Form],

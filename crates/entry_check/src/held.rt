@@ -14,10 +14,10 @@ use std::mem::replace;
 use two_thread::{Met, Tagged};
 use walk::{FindError, Paths, Terrain};
 
-/// How much is held at once: so many facts, claims and accesses of paths, and the rest of the last path.
+/// The room for paths that are held at once, counted in facts, claims and accesses. The last path may pass it.
 const ROOM: usize = 8_192;
 
-/// What is left of the room behind a path.
+/// The room that is left behind a path.
 fn room_behind<D: Copy>(room: usize, path: &Tagged<D>) -> usize {
     room.saturating_sub(path.path.facts.len())
         .saturating_sub(path.path.claims.len())

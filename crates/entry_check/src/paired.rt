@@ -21,7 +21,7 @@ pub enum Paired {
     Accesses(Sought),
 }
 
-/// How many rows the paths that are held have.
+/// The number of rows of the paths that are held.
 pub fn row_count<D: Domain>(kind: Paired, met: &Met<D>) -> usize
     ensures { result ≡ length (held_rows kind met.now) }
 {

@@ -18,8 +18,8 @@ use std::alloc::AllocError;
 use two_thread::Met;
 use walk::FindError;
 
-/// How many obligations there were so far, the entries for those that come, and what the check has stopped at. Behind that the others are
-/// only counted.
+/// The state of the check: the number of obligations so far, the entries for those to come, and the fault at which it
+/// stopped, behind which obligations are only counted.
 #[derive(Drop)]
 pub struct Tally<'e, 't> {
     pub(crate) supply: Supply<'e, 't>,
@@ -47,7 +47,8 @@ fn show_next<D: Domain>(
     show_one(asked, met, owed, count + 1, supply)
 }
 
-/// What stops the check before the first obligation: a number of what denies a claim that is too large for `i64`.
+/// The fault that stops the check before the first obligation: the denial of a claim has a number that is too large for
+/// `i64`.
 fn stopped_by(fit: bool) -> Option<ShowError>
     ensures none { result ≡ None → fit ≡ true }
     ensures stops { StopsBefore fit result }

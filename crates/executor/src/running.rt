@@ -31,7 +31,7 @@ use std::thread::Threads;
 use words::Gate;
 
 /// The buffers of a launch once more.
-fn copy(alloc: Global, buffers: &Buffers) -> Result<Buffers, AllocError>
+pub(crate) fn copy(alloc: Global, buffers: &Buffers) -> Result<Buffers, AllocError>
     ensures { IfOk result (λ b. words_of b ≡ words_of buffers.now) }
 {
     let mut words = Vec::with_capacity(alloc, buffers.words.len())?;
@@ -70,6 +70,29 @@ fn run_groups<R: Threads + Wait + Sync, G: Gate>(
     Ok(buffers)
 }
 
+/// What a run answers whose groups ended with these buffers.
+pub(crate) fn answered(
+    alloc: Global,
+    accepted: &Accepted,
+    launch: &Launch,
+    buffers: &Buffers,
+) -> Result<Buffers, AllocError>
+    requires fits { Fits (core_seen (typed_of accepted.now).1) (launch_seen launch.now) }
+    requires meets { Meets (conditions_seen (kept accepted.now)) (launch_seen launch.now) }
+    requires ended { IsResultOf (at_launch (core_seen (typed_of accepted.now).1) (launch_seen launch.now)) (kept accepted.now).budget (words_of buffers.now) }
+    ensures value { IfOk result (λ b. (w : Width) → IsResultOf (on_device w (at_launch (core_seen (typed_of accepted.now).1) (launch_seen launch.now))) (kept accepted.now).budget (words_of b)) }
+    ensures kinds { IfOk result (λ b. HaveKinds (core_seen (typed_of accepted.now).1).buffers (typed b)) }
+    ensures every { IfOk result (λ b. (w : Width) → EndsEvery (on_device w (at_launch (core_seen (typed_of accepted.now).1) (launch_seen launch.now))) (words_of b)) }
+    ensures defined { IfOk result (λ _. (w : Width) → IsDefined (on_device w (at_launch (core_seen (typed_of accepted.now).1) (launch_seen launch.now))) (kept accepted.now).budget) }
+{
+    launches_begin_kept();
+    pair_safe_within_on_devices();
+    headline_defines_the_result();
+    let _conditions = accepted.conditions();
+    let answer = of_parameters(alloc, accepted, buffers)?;
+    Ok(answer)
+}
+
 /// Runs an accepted kernel at a launch that fits it: the result by rounds, whatever the number of workers, and so what each
 /// interleaving of all work-items that is over ends with, however many bits sizes have. Each worker has a thread of its own, but worker 1,
 /// which is the calling thread; where there are fewer groups as many are started, and a worker whose thread cannot be started is run by the
@@ -98,9 +121,6 @@ pub fn run<R: Threads + Wait + Sync, G: Gate>(
         return Err(RunError::Workers);
     }
     let buffers = run_groups(rt, alloc, accepted, launch, workers, gate)?;
-    launches_begin_kept();
-    pair_safe_within_on_devices();
-    headline_defines_the_result();
-    let answer = of_parameters(alloc, accepted, &buffers)?;
+    let answer = answered(alloc, accepted, launch, &buffers)?;
     Ok(answer)
 }

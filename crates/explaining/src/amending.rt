@@ -2,7 +2,7 @@
 
 use std::alloc::{AllocError, Global};
 
-/// How many words of a line tell what it is of: two of an argument's or of a length, else one.
+/// The number of words that tell the subject of a line: two of an argument's or of a length, else one.
 fn words_of(line: &[u8]) -> usize {
     if line.starts_with(b"arg ") || line.starts_with(b"length ") {
         2

@@ -8,8 +8,8 @@ use core_code::tree::{Site, Statement, Term};
 use findings::{Finding, Grade, Spot};
 use std::alloc::{AllocError, Global};
 
-/// What a finding points at, and the values of which little is known on which it depends. A statement is told by its number, a value by its
-/// place, which is a greater one.
+/// The cause of a finding: the statements at which it points, and the values of which little is known on which it
+/// depends. A statement is told by its number, a value by its place, which is a greater one.
 #[derive(Drop)]
 struct Cause {
     keys: Vec<u64>,

@@ -17,7 +17,7 @@ const LOOP: &[u8] = b"while (0 > 1) { } ";
 /// The number of want of memory.
 const MEMORY: u8 = 90;
 
-/// How many loops are put into a kernel.
+/// The most loops that are put into a kernel.
 const MOST: usize = 4;
 
 /// Statements of a kernel in front of which a loop that never turns parts the paths, the kernel's text with these loops, and whether a
@@ -102,8 +102,8 @@ fn with_loops(alloc: Global, kernel: &[u8], sites: &[Site]) -> Result<Vec<u8>, A
     Ok(text)
 }
 
-/// Where loops that never turn part the paths of a kernel of which there are too many by the text, at most four, one after another; none
-/// where no loop does.
+/// Places for loops that never turn, at most four, one after another, which part the paths of a kernel that has too
+/// many by the text; none where no loop does.
 pub fn part_paths(
     alloc: Global,
     source: Source<'_>,

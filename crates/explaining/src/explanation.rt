@@ -65,7 +65,7 @@ fn push_tests(
     }
 }
 
-/// How many steps a work-item takes by a certificate.
+/// Writes the most steps that a work-item takes by a certificate.
 fn push_cost(
     alloc: Global,
     source: Source<'_>,

@@ -6,7 +6,8 @@ use core_code::tree::{Statement, Term};
 use places::{Point, Rest, holds_barrier};
 use std::alloc::{AllocError, Global};
 
-/// How many paths come through statements, how many leave them by `break` or `continue`, and how many end there.
+/// Numbers of paths: those that come through statements, those that leave them by `break` or `continue`, and those that
+/// end there.
 #[derive(Clone, Copy)]
 pub struct Flows {
     through: u64,
@@ -61,12 +62,12 @@ impl Flows {
         }
     }
 
-    /// What comes through goes on.
+    /// The paths of two statements, one behind the other: each path through the first goes on along each of the second.
     fn then(self, next: Flows) -> Flows {
         Flows { through: 0, ..self }.or(next.times(self.through))
     }
 
-    /// All paths.
+    /// The number of all paths.
     pub fn total(self) -> u64 {
         self.through
             .saturating_add(self.broke)
@@ -74,7 +75,7 @@ impl Flows {
             .saturating_add(self.stopped)
     }
 
-    /// What leaves a loop by `continue` comes to its update.
+    /// The paths at a loop's update, to which a `continue` leads.
     fn at_update(self) -> Flows {
         Flows {
             through: self.through.saturating_add(self.continued),
@@ -83,7 +84,7 @@ impl Flows {
         }
     }
 
-    /// What leaves a loop by `break` comes behind it.
+    /// The paths behind a loop, to which a `break` leads.
     fn behind_loop(self) -> Flows {
         Flows {
             through: self.through.saturating_add(self.broke),
@@ -93,7 +94,7 @@ impl Flows {
     }
 }
 
-/// What a loop's test lets into its body, and what it lets behind the loop.
+/// The paths of a loop, by the sides of its test and the paths of its body: into the body, and behind the loop.
 fn around(sides: Sides, body: Flows) -> Flows {
     let inside = Flows {
         stopped: body
@@ -320,7 +321,7 @@ fn turn_again(
     }
 }
 
-/// What is left behind a place, the innermost last.
+/// Follows paths through the statements behind a place, the innermost of which stand last in the list.
 fn go_on(
     alloc: Global,
     tests: &mut Tests<'_>,

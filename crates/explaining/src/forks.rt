@@ -3,7 +3,7 @@
 use crate::kinds::kind_of;
 use crate::signs::{Signs, signs_of};
 use crate::vague::Slots;
-use core_code::tree::{Core, Relation, Site, Term};
+use core_code::tree::{Core, Operator, Relation, Site, Term};
 use kernel_names::site_at;
 use std::alloc::{AllocError, Global};
 use typed_kernels::Typed;
@@ -12,7 +12,7 @@ use words::Kind;
 /// So many ways that come together are worth being parted from those behind.
 const MANY: u64 = 64;
 
-/// What makes several ways, where it is, and how many they are.
+/// A place where a path goes on in several ways: its site, the number of ways, and a note.
 #[derive(Clone, Copy)]
 pub struct Fork {
     pub site: Site,
@@ -85,6 +85,11 @@ fn is_zero(term: &Term) -> bool {
     }
 }
 
+/// A product with the number 0.
+fn is_zero_product(operator: Operator, left: &Term, right: &Term) -> bool {
+    matches!(operator, Operator::Multiply) && (is_zero(left) || is_zero(right))
+}
+
 /// The greater of two numbers.
 pub fn greater(one: u64, other: u64) -> u64 {
     if one < other { other } else { one }
@@ -127,8 +132,16 @@ impl<'a> Tests<'a> {
             }
             Term::Unary { of, .. } | Term::Convert { of, .. } | Term::Within { index: of, .. } =>
                 self.is_known(of),
-            Term::Binary { left, right, .. }
-            | Term::Minimum { left, right }
+            Term::Binary {
+                operator,
+                left,
+                right,
+                ..
+            } => {
+                is_zero_product(*operator, left, right)
+                    || (self.is_known(left) && self.is_known(right))
+            }
+            Term::Minimum { left, right }
             | Term::Maximum { left, right }
             | Term::Select {
                 taken: left,
@@ -210,7 +223,7 @@ impl<'a> Tests<'a> {
         }
     }
 
-    /// Where the statement of a number begins.
+    /// The site at which the statement of a number begins.
     pub fn site_of(&self, number: u32) -> Site {
         site_at(self.typed.names(), Some(number))
     }

@@ -23,8 +23,8 @@ pub struct OneCount {
     ranges: [(u32, u32); 3],
 }
 
-/// What the conditions say of the numbers that a buffer holds: that they have a least one, and that it is not negative, and that they have
-/// a greatest one.
+/// The ends that conditions give the numbers of a buffer: whether there is a least one, whether it is not negative, and
+/// whether there is a greatest one.
 #[derive(Clone, Copy)]
 struct Ends {
     has_least: bool,
@@ -76,7 +76,7 @@ fn one_count(extent: Option<&Extent>, is_wanted: bool) -> (u32, u32) {
     }
 }
 
-/// What is known of a buffer of a kind without any line.
+/// The ends of a buffer of a kind of which no line speaks.
 fn ends_of(kind: Kind) -> Ends {
     let is_unsigned = kind != Kind::Int;
     Ends {
@@ -166,7 +166,7 @@ impl Given {
         }
     }
 
-    /// What a buffer holds may be negative.
+    /// Whether the buffer may hold a negative number.
     pub fn may_hold_negative(&self, buffer: u32) -> bool {
         match self.buffers.get(buffer as usize) {
             Some(ends) => !ends.is_unsigned,
@@ -207,7 +207,7 @@ impl Given {
         self.extents.get(dimension as usize)
     }
 
-    /// What a function tells of a dimension is one number at all launches.
+    /// Whether a work-item function gives the same number in a dimension at all launches.
     pub fn is_number(&self, function: Function, dimension: u32) -> bool {
         let Some(extent) = self.extent_at(dimension) else {
             return false;
@@ -260,7 +260,7 @@ impl Given {
         }
     }
 
-    /// What a function tells of a dimension at most.
+    /// The largest value of a work-item function in a dimension.
     pub fn most_of(&self, function: Function, dimension: u32) -> Option<Sum> {
         let size = self.extent_at(dimension)?.size;
         match function {
@@ -273,7 +273,7 @@ impl Given {
         }
     }
 
-    /// What a function tells of a dimension at least.
+    /// The least value of a work-item function in a dimension.
     pub fn least_of(&self, function: Function, dimension: u32) -> Option<Sum> {
         match function {
             Function::GlobalId | Function::GroupId | Function::LocalId => Some(Sum::number(0)),

@@ -10,7 +10,7 @@ use findings::{Finding, FindingKind};
 use kernel_reading::Source;
 use std::alloc::{AllocError, Global};
 
-/// How many positions of a cause are told.
+/// The most positions of a cause that are told.
 const MOST: usize = 12;
 
 /// A position of findings, and what is done there.

@@ -119,7 +119,7 @@ fn is_of_tests(kind: FindingKind) -> bool {
     matches!(kind, FindingKind::Divergence | FindingKind::Bound)
 }
 
-/// What is not shown of a loop is looked for in the loop's own test.
+/// Whether a finding asks for the test at a site: one about a loop's bound asks for the loop's own test alone.
 fn is_asked(finding: &Finding, site: Site) -> bool {
     finding.kind != FindingKind::Bound || is_of(finding, site)
 }

@@ -2,7 +2,7 @@
 
 use core_code::tree::{Function, Operator, Term};
 
-/// What a test bounds: a variable, or what a work-item function tells of a dimension.
+/// A value that a test can bound: a variable, or a work-item function in a dimension.
 #[derive(Clone, Copy, PartialEq, Eq)]
 pub enum Key {
     Slot(u32),
@@ -20,7 +20,7 @@ fn number_of(function: Function) -> u32 {
     }
 }
 
-/// What a test bounds, where it is that alone.
+/// The value that a test bounds where one of its sides is this term; none where the term is more than that value.
 pub fn key_of(term: &Term) -> Option<Key> {
     match term {
         Term::Variable { slot } => Some(Key::Slot(*slot)),
@@ -42,7 +42,7 @@ pub fn literal(term: &Term) -> Option<i64> {
     }
 }
 
-/// What a test bounds, and a number that is added to it.
+/// The value that a test bounds where one of its sides is this term, and the number that is added to it.
 pub fn shifted_key(term: &Term) -> Option<(Key, i64)> {
     match term {
         Term::Convert { of, .. } => shifted_key(of),

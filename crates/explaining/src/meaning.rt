@@ -1,21 +1,21 @@
 //! What refusals mean, and what to do.
 
-/// What a finding says that is only possible.
+/// The meaning of a finding that is only possible.
 pub const POSSIBLE: &str =
     "A possible finding says nothing of the kernel: it is what the search could not show, and a replay of the launch at the least values \
      did not come there.";
 
-/// What is said of such findings with what to do about them.
+/// The meaning of such findings, with advice.
 pub const ADVICE: &str =
     "A possible finding says nothing of the kernel: it is what the search could not show, and a replay of the launch at the least values \
      did not come there. A tighter condition may help (a range, a length, a requirement), or another way to write the kernel \
      (docs/KERNELS.md), or a certificate written by hand.";
 
-/// What is said where lines are told with which all is shown.
+/// The text behind lines with which a certificate is found.
 pub const ENOUGH: &str =
     "With these lines of the conditions a certificate is found. The host has to keep to them.";
 
-/// What is said where the certificate passes the budget.
+/// The text behind lines with which a certificate is found that passes the budget.
 pub const OVER: &str =
     "With these lines of the conditions and a larger budget a certificate is found. The host has to keep to them.";
 

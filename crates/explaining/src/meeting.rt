@@ -8,7 +8,8 @@ use launch_text::error::LaunchTextError;
 use launch_text::read_conditions_as;
 use std::alloc::{AllocError, Global};
 
-/// Which values a launch has: the least ones, the greatest ones, or the greatest ones of what is to be large alone.
+/// The choice of a launch's values: the least ones, the greatest ones, or the greatest ones of the values alone that
+/// are to be large.
 #[derive(Clone, Copy)]
 enum Choice {
     Least,

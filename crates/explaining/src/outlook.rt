@@ -12,7 +12,7 @@ use launch_text::read_conditions_as;
 use std::alloc::{AllocError, Global};
 use typed_kernels::Typed;
 
-/// How many findings are told by their places alone.
+/// The most findings that are told by their places alone.
 const MOST: usize = 12;
 
 /// A line of the conditions that may help, whether it is of conditions of version 2, and the numbers of the findings for which it is there.

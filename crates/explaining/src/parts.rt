@@ -3,7 +3,7 @@
 use core_code::tree::{Statement, Term};
 use std::alloc::{AllocError, Global};
 
-/// How many statements, or terms, are gone through at most; a kernel's text has at most 65,536 bytes.
+/// The most statements, or terms, that are gone through. A kernel's text has at most 65,536 bytes.
 pub const MOST: usize = 1_000_000;
 
 /// The statements of a block in front of those that are left, the next one last.

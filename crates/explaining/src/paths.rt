@@ -12,31 +12,31 @@ use places::{Point, points_of};
 use std::alloc::{AllocError, Global};
 use typed_kernels::Typed;
 
-/// How many tests are told.
+/// The most tests that are told.
 const MOST: usize = 10;
 
-/// How many paths there may be from a place.
+/// The most paths that there may be from a place.
 pub const ALLOWED: u64 = 256;
 
 /// A greater number of paths is not told.
 const TOLD: u64 = 1_000_000;
 
-/// What to do about too many paths.
+/// Advice for too many paths.
 const ADVICE: &str =
     "A barrier or a loop between two tests parts them: so does one that never turns, while (0 > 1) { }, at the cost of a step. A test by < \
      or > has two ways where one by ==, != or a number itself has three: write if (x > 0u) for if (x), and if (x < 1u) for if (x == 0u).";
 
-/// Where loops may stand that never turn.
+/// The line in front of the places for loops that never turn.
 const CUTS: &str = "Such a loop, while (0 > 1) { }, may stand where many paths have come together:";
 
-/// What is said where they are enough.
+/// The line behind these places where a certificate is found with such loops.
 const PARTED: &str =
     "So a certificate is found, for a budget that has a step more each time that one is come to.";
 
-/// What is said where they are not.
+/// The line behind these places where no certificate is found with such loops.
 const UNPARTED: &str = "That alone is not enough: no certificate is found so, either.";
 
-/// What to do where there are few paths, and so too many obligations.
+/// Advice for few paths, where the obligations are too many.
 const FEW_PATHS: &str =
     "There are few paths by the text, so it is the obligations that are too many: each two accesses of one array, on any two paths from \
      places where two items may be at once, are a pair, if one of them stores. Use fewer accesses between two barriers: a load that is \
@@ -63,7 +63,7 @@ fn beginning(point: Option<&Point<'_>>) -> &'static str {
     }
 }
 
-/// How many tests make more than two ways, and how many make two.
+/// The numbers of tests with more than two ways, and of tests with two.
 fn counts(forks: &[Fork]) -> (usize, usize) {
     let mut wide = 0usize;
     for fork in forks {
@@ -135,7 +135,7 @@ pub struct Count {
     pub cut: Option<Cut>,
 }
 
-/// How many paths there are by the text.
+/// Writes the number of paths by the text.
 fn write_total(total: u64, text: &mut String) -> Result<(), AllocError> {
     if total > TOLD {
         write!(
@@ -152,7 +152,7 @@ fn write_total(total: u64, text: &mut String) -> Result<(), AllocError> {
     }
 }
 
-/// How many paths the wide walk has, where it has fewer.
+/// Writes the number of paths of the wide walk, where it has fewer.
 fn write_wide(wide: Option<u64>, text: &mut String) -> Result<(), AllocError> {
     match wide {
         Some(wide) => write!(text, "With --wide there are {wide}. "),
@@ -160,7 +160,7 @@ fn write_wide(wide: Option<u64>, text: &mut String) -> Result<(), AllocError> {
     }
 }
 
-/// How many paths there are by the text, and what to do.
+/// Writes the number of paths by the text, with advice.
 fn push_total(
     alloc: Global,
     total: u64,

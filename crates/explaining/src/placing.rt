@@ -4,7 +4,7 @@ use crate::forks::{Tests, sides_of};
 use core_code::tree::{Site, Term};
 use std::alloc::{AllocError, Global};
 
-/// Where the tests of a statement are told: at its signs, where these are as many as the tests have, else where it begins.
+/// The places at which the tests of a statement are told: its signs, where there are as many as tests, else its begin.
 #[derive(Drop)]
 struct Places {
     signs: Vec<Site>,
@@ -27,7 +27,7 @@ impl Places {
     }
 }
 
-/// What the ways of a test are, where it has three.
+/// The names of the three ways of a test; empty where it has not three.
 fn note_of(test: &Term, ways: u64) -> &'static str {
     match test {
         Term::And { .. } | Term::Or { .. } | Term::Not { .. } => "",
@@ -37,7 +37,7 @@ fn note_of(test: &Term, ways: u64) -> &'static str {
     }
 }
 
-/// How many signs of tests a term has in the text.
+/// The number of signs of tests that a term has in the text.
 fn count_signs(term: &Term) -> usize {
     match term {
         Term::Literal { .. } | Term::Variable { .. } | Term::Id { .. } => 0,
@@ -192,7 +192,7 @@ fn push_value(
     }
 }
 
-/// Where a test is told that is a number: at its operator, else at its first name.
+/// The place of a test that is a number: its operator, else its first name.
 fn place_of_number(tests: &Tests<'_>, begin: Site, test: &Term) -> Site {
     match test {
         Term::Convert { of, .. } => place_of_number(tests, begin, of),
@@ -201,7 +201,7 @@ fn place_of_number(tests: &Tests<'_>, begin: Site, test: &Term) -> Site {
     }
 }
 
-/// Where a test is told.
+/// The place at which a test is told.
 fn place_of_test(tests: &Tests<'_>, places: &Places, test: &Term) -> Site {
     match test {
         Term::Convert { of, .. } => place_of_test(tests, places, of),

@@ -12,7 +12,7 @@ use findings::{Finding, FindingKind};
 use std::alloc::{AllocError, Global};
 use words::Fault;
 
-/// How many lines are proposed.
+/// The most lines that are proposed.
 const MOST: usize = 6;
 
 /// The greatest number of a size.
@@ -124,7 +124,7 @@ impl<'a> Proposals<'a> {
         Ok(())
     }
 
-    /// That a sum is at least another one, unless it is so anyway.
+    /// Proposes that a sum is at least another one, unless it is so anyway.
     fn require(&mut self, alloc: Global, left: Sum, right: Sum) -> Result<(), AllocError> {
         if left.beyond(right).is_some() {
             return Ok(());
@@ -132,7 +132,7 @@ impl<'a> Proposals<'a> {
         self.push(alloc, Line::Require { left, right })
     }
 
-    /// That rows are apart.
+    /// Proposes that rows are apart.
     fn push_pitches(
         &mut self,
         alloc: Global,
@@ -146,7 +146,7 @@ impl<'a> Proposals<'a> {
         Ok(())
     }
 
-    /// That no argument in an index is negative.
+    /// Proposes that no argument in an index is negative.
     fn push_signs(
         &mut self,
         alloc: Global,
@@ -171,7 +171,7 @@ impl<'a> Proposals<'a> {
         }
     }
 
-    /// That an argument is at least a number.
+    /// Proposes that an argument is at least a number.
     fn push_from(&mut self, alloc: Global, slot: u32, low: i64) -> Result<(), AllocError> {
         match self.known.slots.given().range(slot as usize) {
             Some((least, high)) if least < low && low <= high => {
@@ -181,7 +181,7 @@ impl<'a> Proposals<'a> {
         }
     }
 
-    /// That a buffer holds numbers from 0 to a sum.
+    /// Proposes that a buffer holds numbers from 0 to a sum, which is left out where it is below 0.
     fn push_values(
         &mut self,
         alloc: Global,
@@ -200,7 +200,7 @@ impl<'a> Proposals<'a> {
             )?;
         }
         match most {
-            Some(sum) if unbounded.is_above() => {
+            Some(sum) if unbounded.is_above() && !sum.is_below_zero() => {
                 self.push(
                     alloc,
                     Line::Values {
@@ -214,7 +214,7 @@ impl<'a> Proposals<'a> {
         }
     }
 
-    /// That what is loaded, and what an index depends on, is at most a sum.
+    /// Proposes that each value that is loaded, and each on which an index depends, is at most a sum.
     fn push_loaded(
         &mut self,
         alloc: Global,
@@ -230,7 +230,7 @@ impl<'a> Proposals<'a> {
         Ok(())
     }
 
-    /// That an index is within its array.
+    /// Proposes that an index is within its array.
     fn push_index(
         &mut self,
         alloc: Global,
@@ -270,7 +270,7 @@ impl<'a> Proposals<'a> {
         self.push_loaded(alloc, finding, most)
     }
 
-    /// That a result fits.
+    /// Proposes that a result fits its kind.
     fn push_result(
         &mut self,
         alloc: Global,
@@ -284,7 +284,7 @@ impl<'a> Proposals<'a> {
         }
     }
 
-    /// That a divisor is not 0.
+    /// Proposes that a divisor is not 0.
     fn push_divisor(
         &mut self,
         alloc: Global,
@@ -300,7 +300,7 @@ impl<'a> Proposals<'a> {
         }
     }
 
-    /// What may help with a finding at a site in a statement.
+    /// Proposes lines that may help with a finding at a site in a statement.
     fn push_at(
         &mut self,
         alloc: Global,
@@ -335,7 +335,7 @@ impl<'a> Proposals<'a> {
         }
     }
 
-    /// What may help with a finding.
+    /// Proposes lines that may help with a finding.
     fn push_for(&mut self, alloc: Global, finding: &Finding) -> Result<(), AllocError> {
         let known = self.known;
         for spot in finding.sites.iter() {

@@ -8,14 +8,14 @@ use crate::sums::Sum;
 use core_code::tree::{Operator, Relation, Site, Space, Statement, Term, UnaryOperator};
 use std::alloc::{AllocError, Global};
 
-/// What is bounded, and by which sum.
+/// A sum that bounds a value.
 #[derive(Clone, Copy)]
 struct Bound {
     key: Key,
     most: Sum,
 }
 
-/// What is known of a variable: the sums between which its value is, and the term that it is set to, where it is set once.
+/// The sums between which a variable's value is, and the term that it is set to, where it is set once.
 #[derive(Clone, Copy)]
 struct Extent<'a> {
     least: Option<Sum>,
@@ -305,7 +305,7 @@ impl<'a> Reaches<'a> {
         }
     }
 
-    /// What is known of arguments and variables, anywhere in a kernel.
+    /// The bounds of arguments and variables that hold anywhere in a kernel.
     fn begin(alloc: Global, known: &'a Known<'a>) -> Result<Reaches<'a>, AllocError> {
         let given = known.slots.given();
         let mut reaches = Reaches {
@@ -340,7 +340,7 @@ impl<'a> Reaches<'a> {
         }
     }
 
-    /// What is known of values at a site.
+    /// The bounds of values that hold at a site.
     pub fn at(alloc: Global, known: &'a Known<'a>, site: Site) -> Result<Reaches<'a>, AllocError> {
         let mut reaches = Reaches::begin(alloc, known)?;
         let guards: Vec<Guard<'a>> = guards_at(alloc, known.body, site)?;

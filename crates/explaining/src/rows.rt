@@ -7,7 +7,7 @@ use core_code::tree::{Operator, Term};
 use std::alloc::{AllocError, Global};
 
 impl<'a> Reaches<'a> {
-    /// What a term is a multiple of and has no number for, with the other factor.
+    /// A factor of a term that is known as a sum, with the other factor; none where the term is no such product.
     fn pitch(&self, term: &'a Term) -> Option<(Sum, &'a Term)> {
         match term {
             Term::Convert { of, .. } => self.pitch(of),
@@ -52,7 +52,8 @@ impl<'a> Reaches<'a> {
         }
     }
 
-    /// What an index is put together of rows by: of at most three pitches each with the least that it has to be for rows to be apart.
+    /// The pitches of an index that is put together of rows, at most three, each with the least that it has to be for
+    /// rows to be apart.
     pub fn pitches(&self, alloc: Global, index: &'a Term) -> Result<Vec<(Sum, Sum)>, AllocError> {
         let mut found = Vec::new(alloc);
         let mut left = index;

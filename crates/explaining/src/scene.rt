@@ -25,7 +25,7 @@ use work_item::ask::{Cell, Owner};
 /// The blanks in front of each line of a replay.
 const INDENT: &str = "   ";
 
-/// How many values are told of an item, and how many buffers of a launch.
+/// The most values of an item, and the most buffers of a launch, that are told.
 const MOST: usize = 8;
 
 /// Events one after another, until so many accesses were made.

@@ -3,7 +3,7 @@
 use machine::world::Event;
 use std::alloc::{AllocError, Global};
 
-/// How many parts of a schedule are told.
+/// The most parts of a schedule that are told.
 const MOST: usize = 12;
 
 /// Items one after another that take so many steps each, or groups that are released one after another.

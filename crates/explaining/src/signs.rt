@@ -5,7 +5,8 @@ use crate::source::behind;
 use core_code::tree::Site;
 use std::alloc::{AllocError, Global};
 
-/// What is looked at in a text: brackets, the end of a statement, a sign or a name that makes a test, the word `for`, and other words.
+/// A mark in a text: a bracket, the end of a statement, a sign or a name that makes a test, the word `for`, or another
+/// word.
 #[derive(Clone, Copy)]
 enum Mark {
     Open,
@@ -32,7 +33,7 @@ fn is_of_name(byte: u8) -> bool {
     byte.is_ascii_alphanumeric() || byte == b'_'
 }
 
-/// How many bytes of a name or a number stand in front.
+/// The number of bytes of the name or the number in front.
 fn name_length(rest: &[u8]) -> usize {
     let mut count: usize = 0;
     for byte in rest {
@@ -44,7 +45,7 @@ fn name_length(rest: &[u8]) -> usize {
     count
 }
 
-/// How many bytes stand in front of the line's end.
+/// The number of bytes in front of the line's end.
 fn line_length(rest: &[u8]) -> usize {
     let mut count: usize = 0;
     for byte in rest {
@@ -56,7 +57,7 @@ fn line_length(rest: &[u8]) -> usize {
     count
 }
 
-/// How many bytes a comment has that begins with a stroke and a star.
+/// The number of bytes of a comment that begins with a stroke and a star.
 fn comment_length(rest: &[u8]) -> usize {
     let mut count: usize = 0;
     let mut before = b' ';
@@ -81,7 +82,7 @@ fn mark_of(word: &[u8]) -> Option<Mark> {
     }
 }
 
-/// How many bytes are passed over in front of a text, and their mark.
+/// The number of bytes that are passed over in front of a text, and their mark.
 fn token_at(rest: &[u8]) -> (usize, Option<Mark>) {
     let first = rest.first().copied().unwrap_or(b' ');
     let second = rest.get(1).copied().unwrap_or(b' ');

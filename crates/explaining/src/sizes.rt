@@ -14,16 +14,16 @@ use std::alloc::{AllocError, Global};
 use types::devices::Devices;
 use words::Kind;
 
-/// What a kernel does on devices with other address bits.
+/// The text on a kernel that computes with sizes: it may differ on devices with other address bits.
 const COMPUTED: &str =
     "The kernel computes with an id or a size that is not cast, or has a signed number beside one. This answer is for devices \
     with 32 address bits, where that is done modulo 2^32; a device with 64 computes with 64 bits.";
 
-/// What it means that a kernel is accepted for any devices, too.
+/// The text on a kernel that is accepted for any devices, too.
 const SAME: &str =
     "With --devices any the kernel is accepted, too: it has the same results on every device.";
 
-/// What helps where it is not.
+/// Advice for a kernel that is not accepted for any devices.
 const CAST: &str =
     "Where 32 bits are meant, cast the id: (uint)get_global_id(0) is the same on every device.";
 

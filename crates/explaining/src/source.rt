@@ -3,7 +3,7 @@
 use core_code::tree::Site;
 use std::alloc::{AllocError, Global};
 
-/// How many bytes of a line are shown.
+/// The most bytes of a line that are shown.
 const ROOM: usize = 92;
 
 /// The number of signs that stand in front of the site, where the line is too long.

@@ -2,13 +2,13 @@
 
 use std::alloc::AllocError;
 
-/// How many terms a sum has at most.
+/// The most terms of a sum.
 const MOST: usize = 8;
 
 /// The largest number in a sum.
 const LARGEST: u64 = 4_294_967_295;
 
-/// What a term may name: an argument by its slot, or the count of groups of a dimension.
+/// The name of a term's factor: an argument by its slot, or the count of groups of a dimension.
 #[derive(Clone, Copy, PartialEq, Eq)]
 pub enum Name {
     Argument(u32),
@@ -121,6 +121,11 @@ impl Sum {
             terms: [NONE; MOST],
             count: 0,
         }
+    }
+
+    /// At each launch it is a number below 0.
+    pub fn is_below_zero(&self) -> bool {
+        self.count == 0 && self.constant < 0
     }
 
     /// So many times what is named.
@@ -245,7 +250,7 @@ impl Sum {
         false
     }
 
-    /// How much more the sum is than another one; none where that is no number.
+    /// The difference of the sum and another one; none where that is no number.
     pub fn beyond(self, other: Sum) -> Option<i64> {
         self.minus(other)?.as_number()
     }

@@ -193,7 +193,7 @@ fn told_of<'a>(
     Ok(told)
 }
 
-/// How many findings are not told, as a further search shows them; none where it did not look at all.
+/// The number of findings that are not told, as a further search shows them; none where it did not look at all.
 fn count_shown(findings: &[Finding], outlook: Option<&Outlook>) -> usize {
     let mut count: usize = 0;
     if let Some(outlook) = outlook {
@@ -220,7 +220,7 @@ fn push_shown(alloc: Global, count: usize, out: &mut String) -> Result<(), Alloc
     push_paragraph(out, "", &text)
 }
 
-/// What is said of the lines that help, where a certificate is found with them.
+/// The text on the lines that help, where a certificate is found with them.
 fn said_of(outlook: Option<&Outlook>) -> Option<&'static str> {
     let outlook = outlook?;
     if !outlook.is_enough {

@@ -8,10 +8,10 @@ use core_code::tree::{
 use std::alloc::{AllocError, Global};
 use words::Kind;
 
-/// How often the statements are gone over to learn which variables may be negative.
+/// The number of passes over the statements to learn which variables may be negative.
 const PASSES: usize = 4;
 
-/// Why only the range of a value is known.
+/// The reasons for which only the range of a value is known.
 #[derive(Clone, Copy)]
 pub enum Reason {
     Product,
@@ -161,7 +161,7 @@ impl<'a> Slots<'a> {
         }
     }
 
-    /// Why little is known of an element that is loaded, and which lines would bound it.
+    /// The reason for which little is known of an element that is loaded, and the lines that would bound it.
     fn loaded(&self, site: Site, array: Array) -> Vague {
         let unbounded = self.given.unbounded(array.number);
         match array.space {
@@ -218,7 +218,7 @@ impl<'a> Slots<'a> {
         }
     }
 
-    /// What would make a value a number that is none: one count of groups.
+    /// The count of groups that, were it one number, would make a value a number that is none now.
     fn one_value(&self, term: &Term) -> Option<OneCount> {
         match term {
             Term::Variable { slot } => *self.ones.get(*slot as usize)?,
@@ -237,7 +237,7 @@ impl<'a> Slots<'a> {
         }
     }
 
-    /// What would make both of two values numbers, by what would make each of them one.
+    /// The count of groups that would make both of two values numbers, by those that would make each of them one.
     fn one_of_both(
         &self,
         left: &Term,
@@ -255,7 +255,7 @@ impl<'a> Slots<'a> {
         None
     }
 
-    /// What would make one of two values a number, the right one first.
+    /// The count of groups that would make one of two values a number, the right one first.
     fn one_of_either(&self, left: &Term, right: &Term) -> Option<OneCount> {
         match self.one_value(right) {
             Some(one) => Some(one),
@@ -302,7 +302,7 @@ impl<'a> Slots<'a> {
         }
     }
 
-    /// What the conditions allow.
+    /// The ranges that the conditions allow.
     pub fn given(&self) -> &Given {
         &self.given
     }
@@ -322,7 +322,7 @@ impl<'a> Slots<'a> {
         Ok(slots)
     }
 
-    /// Why only the range of a quotient or remainder is known.
+    /// The reason for which only the range of a quotient or remainder is known.
     fn reason_of_division(&self, left: &Term, right: &Term) -> Option<Reason> {
         if !self.is_number(right) {
             Some(Reason::Quotient)
@@ -333,7 +333,7 @@ impl<'a> Slots<'a> {
         }
     }
 
-    /// Why only a range is known of the bits of two values.
+    /// The reason for which only a range is known of the bits of two values.
     fn reason_of_bits(&self, operator: Operator, left: &Term, right: &Term) -> Option<Reason> {
         if may_dip_by(operator, self.may_dip(left), self.may_dip(right)) {
             return Some(Reason::SignedBits);
@@ -347,7 +347,7 @@ impl<'a> Slots<'a> {
         }
     }
 
-    /// Why only the range of what an operator gives is known.
+    /// The reason for which only the range of an operator's result is known.
     fn reason_of(&self, operator: Operator, left: &Term, right: &Term) -> Option<Reason> {
         match operator {
             Operator::Multiply if self.is_number(left) || self.is_number(right) => None,
@@ -360,7 +360,7 @@ impl<'a> Slots<'a> {
         }
     }
 
-    /// What the conditions might say to make a value exact.
+    /// The count of groups of which the conditions might say more to make a value exact.
     fn one_for(&self, reason: Reason, left: &Term, right: &Term) -> Option<OneCount> {
         match reason {
             Reason::Product => self.one_of_either(left, right),
@@ -391,7 +391,7 @@ impl<'a> Slots<'a> {
         }
     }
 
-    /// Why only the range of a term's value is known, and where its operator is.
+    /// The reason for which only the range of a term's value is known, and the site of its operator.
     pub fn what_is_vague(&self, term: &Term) -> Option<Vague> {
         match term {
             Term::Load { site, array, .. } => Some(self.loaded(*site, *array)),

@@ -4,7 +4,8 @@ use Rattle.linear.specs.Linear.{Weighted}
 use Rattle.linear.specs.Products.{factors}
 use Rattle.domain.specs.declared.Domain.{Ghosts}
 use Rattle.domain.specs.Members.{leaves}
-use Rattle.facts.specs.Symbols.{Side, First, Second, Symbol, Groups, ArgumentOf, Length, Local, Group, New, Variable, AtAnchor, Turns, symbol_of, Fact}
+use Rattle.facts.specs.Symbols.{Side, First, Second, Symbol, Groups, ArgumentOf, Length, Local, Group, New, Variable, AtAnchor}
+use Rattle.facts.specs.Symbols.{Turns, symbol_of, Fact}
 
 -- the elements of a launch's symbols, and of the ids of its items
 pub record Known (E : Type 0) : Type 0 where

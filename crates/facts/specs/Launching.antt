@@ -3,7 +3,8 @@ use Rattle.std.specs.Prelude.{ℕ, zero, suc, ℤ, pos, ◌-ℤ◌, List, [], �
 use Rattle.std.specs.Option.{option_map}
 use Rattle.semantics.specs.Launch.{Three}
 use Rattle.semantics.specs.Setup.{along}
-use Rattle.semantics.specs.Conditions.{Range, Factor, ArgumentFactor, GroupsFactor, Summand, Constant, Argument, Groups, Product, Requirement, Content, Conditions}
+use Rattle.semantics.specs.Conditions.{Range, Factor, ArgumentFactor, GroupsFactor, Summand, Constant, Argument, Groups, Product}
+use Rattle.semantics.specs.Conditions.{Requirement, Content, Conditions}
 use Rattle.linear.specs.Exact.{sum, multiple}
 use Rattle.linear.specs.Products.{times, single, and_then}
 use Rattle.domain.specs.declared.Domain.{Ghosts}

@@ -24,7 +24,13 @@ side items.First = symbols.First
 side items.Second = symbols.Second
 
 abbrev pub known_seen : {E : Type 0} → Known E → elements.Known E
-known_seen k = record { counts = k.counts.items; arguments = k.arguments.items; lengths = k.lengths.items; locals = k.locals.items; groups = k.groups.items }
+known_seen k = record {
+  counts = k.counts.items;
+  arguments = k.arguments.items;
+  lengths = k.lengths.items;
+  locals = k.locals.items;
+  groups = k.groups.items;
+}
 
 abbrev pub elements_seen : {E : Type 0} → Known E → (first second : List E) → elements.Elements E
 elements_seen k first second = record { known = known_seen k; first = first; second = second }

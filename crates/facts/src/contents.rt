@@ -35,7 +35,8 @@ fn buffer_bound(alloc: Global, line: &Content) -> Result<BufferBound, WalkError>
 #[tactic(auto, using(crate::proofs::Facts::bounds_more))]
 /// Adds what one line says.
 fn push_bound(alloc: Global, bounds: &mut Vec<BufferBound>, line: &Content) -> Result<(), WalkError>
-    ensures { MatchResult result (λ _. map bound_seen bounds.new.items ≡ map bound_seen bounds.old.items ++ launching.buffer_bound (content_seen line.now) ∷ []) IsMemory }
+    ensures { MatchResult result (λ _. map bound_seen bounds.new.items
+        ≡ map bound_seen bounds.old.items ++ launching.buffer_bound (content_seen line.now) ∷ []) IsMemory }
 {
     let bound = buffer_bound(alloc, line)?;
     bounds.push(bound)?;
@@ -49,7 +50,8 @@ fn push_bounds(
     bounds: &mut Vec<BufferBound>,
     lines: &[Content],
 ) -> Result<(), WalkError>
-    ensures { MatchResult result (λ _. map bound_seen bounds.new.items ≡ map bound_seen bounds.old.items ++ map launching.buffer_bound (map content_seen lines.now)) IsMemory }
+    ensures { MatchResult result (λ _. map bound_seen bounds.new.items
+        ≡ map bound_seen bounds.old.items ++ map launching.buffer_bound (map content_seen lines.now)) IsMemory }
 {
     for line in lines {
         push_bound(alloc, bounds, line)?;
@@ -57,7 +59,7 @@ fn push_bounds(
     Ok(())
 }
 
-/// What the lines of the conditions say that buffers hold, in their order.
+/// The bounds that the conditions set on what buffers hold, in the order of their lines. The error is want of memory.
 pub fn buffer_bounds(alloc: Global, conditions: &Conditions) -> Result<Vec<BufferBound>, WalkError>
     ensures { MatchResult result (λ bs. map bound_seen bs.items ≡ launching.buffer_bounds (conditions_seen conditions.now)) IsMemory }
 {

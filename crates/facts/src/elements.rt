@@ -87,7 +87,8 @@ fn element_at<D: Domain>(known: &Known<D>, first: &[D], second: &[D], symbol: Sy
 
 /// The element of a sum with one more term.
 fn with_term<D: Domain>(known: &Known<D>, first: &[D], second: &[D], so_far: D, term: Term) -> D
-    ensures { result ≡ D.add_of so_far (D.mul_of (D.number_of (term_seen term).coefficient) (elements.element_at D.Domain (seen known.now first.now second.now) (term_seen term).symbol)) }
+    ensures { result ≡ D.add_of so_far (D.mul_of (D.number_of (term_seen term).coefficient)
+        (elements.element_at D.Domain (seen known.now first.now second.now) (term_seen term).symbol)) }
 {
     let factor = D::of(term.coefficient);
     so_far.add(factor.mul(element_at(known, first, second, term.symbol)))

@@ -6,7 +6,7 @@ use linear::LinearError;
 use std::alloc::{AllocError, AllocFailed};
 use thiserror::Error;
 
-/// Why a kernel was not walked.
+/// The reasons for which a kernel is not walked.
 #[derive(Error, Debug, Drop)]
 pub enum WalkError {
     #[error("53 1:1")]

@@ -1,7 +1,8 @@
 //! The elements of a launch's symbols, and of the ids of its items.
 
 ghost use Rattle.std.specs.Prelude.{◌≡◌, ◌∷◌, ℤ, [], pos, IfOk, MatchResult, map};
-ghost use Rattle.launch.specs.View.{sum as sum_seen, length_sum, argument_range as argument_range_seen, count_range as count_range_seen, conditions as conditions_seen};
+ghost use Rattle.launch.specs.View.{sum as sum_seen, length_sum, argument_range as argument_range_seen};
+ghost use Rattle.launch.specs.View.{count_range as count_range_seen, conditions as conditions_seen};
 ghost use Rattle.facts.specs.Elements as elements;
 ghost use Rattle.facts.specs.Launching as launching;
 ghost use Rattle.facts.specs.View.{elements_seen, known_seen, three};
@@ -77,7 +78,8 @@ fn of_lengths<D: Domain>(
     known: &Known<D>,
     lengths: &[Length],
 ) -> Result<Vec<D>, WalkError>
-    ensures { MatchResult result (λ v. v.items ≡ map (launching.from_least D.Domain (elements_seen known.now [] [])) (map length_sum lengths.now)) IsMemory }
+    ensures { MatchResult result (λ v. v.items
+        ≡ map (launching.from_least D.Domain (elements_seen known.now [] [])) (map length_sum lengths.now)) IsMemory }
 {
     let mut elements = Vec::new(alloc);
     for length in lengths {

@@ -70,7 +70,8 @@ pub fn once_new(alloc: Global, item: Side, index: usize) -> Result<Form, WalkErr
 
 /// A form less a number.
 pub fn less_number(alloc: Global, of: &Form, number: i64) -> Result<Form, WalkError>
-    ensures { MatchResult result (λ f. form f ≡ symbols.minus (form of.now) (symbols.constant number)) (λ e. IsUnfit e (symbols.minus (form of.now) (symbols.constant number))) }
+    ensures { MatchResult result (λ f. form f ≡ symbols.minus (form of.now) (symbols.constant number))
+        (λ e. IsUnfit e (symbols.minus (form of.now) (symbols.constant number))) }
 {
     let constant = Form::constant(alloc, number);
     let difference = of.sub(alloc, &constant)?;
@@ -79,7 +80,8 @@ pub fn less_number(alloc: Global, of: &Form, number: i64) -> Result<Form, WalkEr
 
 /// A number less a form.
 pub fn number_less(alloc: Global, number: i64, of: &Form) -> Result<Form, WalkError>
-    ensures { MatchResult result (λ f. form f ≡ symbols.minus (symbols.constant number) (form of.now)) (λ e. IsUnfit e (symbols.minus (symbols.constant number) (form of.now))) }
+    ensures { MatchResult result (λ f. form f ≡ symbols.minus (symbols.constant number) (form of.now))
+        (λ e. IsUnfit e (symbols.minus (symbols.constant number) (form of.now))) }
 {
     let constant = Form::constant(alloc, number);
     let difference = constant.sub(alloc, of)?;

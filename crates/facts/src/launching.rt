@@ -1,11 +1,15 @@
 //! What conditions say of each launch that meets them, and of its items.
 
-ghost use Rattle.std.specs.Prelude.{◌≡◌, ◌<◌, ◌++◌, ◌∷◌, [], ℕ, pos, ◌*◌, ◌^◌, ◌≤◌, ◌-ℤ◌, IfOk, IfSome, None, Some, MatchOption, MatchResult, map};
+ghost use Rattle.std.specs.Prelude.{◌≡◌, ◌<◌, ◌++◌, ◌∷◌, [], ℕ, pos, ◌*◌, ◌^◌, ◌≤◌, ◌-ℤ◌, IfOk, IfSome, None, Some, MatchOption};
+ghost use Rattle.std.specs.Prelude.{MatchResult, map};
 ghost use Rattle.linear.specs.Forms.{form as form_seen, forms};
 ghost use Rattle.linear.specs.Sizes.{size};
 ghost use Rattle.words.specs.View.{value_of};
 ghost use Rattle.launch.specs.Numbers.{number as number_seen};
-ghost use Rattle.launch.specs.View.{factor as factor_seen, summand as summand_seen, sum as sum_seen, length_sum, requirement as requirement_seen, dimension as dimension_seen, count_range as count_range_seen, argument_range as argument_range_seen, conditions as conditions_seen};
+ghost use Rattle.launch.specs.View.{factor as factor_seen, summand as summand_seen, sum as sum_seen, length_sum};
+ghost use Rattle.launch.specs.View.{requirement as requirement_seen, dimension as dimension_seen};
+ghost use Rattle.launch.specs.View.{count_range as count_range_seen, argument_range as argument_range_seen};
+ghost use Rattle.launch.specs.View.{conditions as conditions_seen};
 ghost use Rattle.semantics.specs.Setup.{along};
 ghost use Rattle.semantics.specs.Conditions as meaning;
 ghost use Rattle.facts.specs.Symbols as symbols;
@@ -60,7 +64,8 @@ fn factor_form(alloc: Global, factor: Factor) -> Result<Form, WalkError>
 
 /// The form that is the product of two arguments or group counts, once, if it has a symbol.
 fn product_form(alloc: Global, first: Factor, second: Factor) -> Result<Option<Form>, WalkError>
-    ensures { MatchResult result (λ r. MatchOption r (launching.product_form (factor_seen first) (factor_seen second) ≡ None) (λ f. launching.product_form (factor_seen first) (factor_seen second) ≡ Some (form_seen f))) IsMemory }
+    ensures { MatchResult result (λ r. MatchOption r (launching.product_form (factor_seen first) (factor_seen second) ≡ None)
+        (λ f. launching.product_form (factor_seen first) (factor_seen second) ≡ Some (form_seen f))) IsMemory }
 {
     let left = factor_form(alloc, first)?;
     let right = factor_form(alloc, second)?;
@@ -75,7 +80,10 @@ fn multiple_form(
     first: Factor,
     second: Factor,
 ) -> Result<Option<Form>, WalkError>
-    ensures exact { MatchResult result (λ r. MatchOption r (launching.summand_form (meaning.Product (number_seen number) (factor_seen first) (factor_seen second)) ≡ None) (λ f. launching.summand_form (meaning.Product (number_seen number) (factor_seen first) (factor_seen second)) ≡ Some (form_seen f))) IsMemory }
+    ensures exact { MatchResult result (λ r. MatchOption r
+        (launching.summand_form (meaning.Product (number_seen number) (factor_seen first) (factor_seen second)) ≡ None)
+        (λ f. launching.summand_form (meaning.Product (number_seen number) (factor_seen first) (factor_seen second))
+        ≡ Some (form_seen f))) IsMemory }
     ensures small { IfOk result (λ r. IfSome r (λ f. size (form_seen f) ≤ 4294967295)) }
 {
     let Some(product) = product_form(alloc, first, second)? else {
@@ -87,7 +95,8 @@ fn multiple_form(
 
 /// The form of a summand of a sum in conditions, if its product has a symbol.
 fn summand_form(alloc: Global, summand: Summand) -> Result<Option<Form>, WalkError>
-    ensures exact { MatchResult result (λ r. MatchOption r (launching.summand_form (summand_seen summand) ≡ None) (λ f. launching.summand_form (summand_seen summand) ≡ Some (form_seen f))) IsMemory }
+    ensures exact { MatchResult result (λ r. MatchOption r (launching.summand_form (summand_seen summand) ≡ None)
+        (λ f. launching.summand_form (summand_seen summand) ≡ Some (form_seen f))) IsMemory }
     ensures small { IfOk result (λ r. IfSome r (λ f. size (form_seen f) ≤ 4294967295)) }
 {
     match summand {
@@ -110,7 +119,8 @@ fn summand_form(alloc: Global, summand: Summand) -> Result<Option<Form>, WalkErr
 
 /// The form of a sum in conditions: the sum of its summands' forms, if all have one.
 pub fn sum_form(alloc: Global, sum: &Sum) -> Result<Option<Form>, WalkError>
-    ensures exact { MatchResult result (λ r. MatchOption r (launching.sum_form (sum_seen sum.now) ≡ None) (λ f. launching.sum_form (sum_seen sum.now) ≡ Some (form_seen f))) IsMemory }
+    ensures exact { MatchResult result (λ r. MatchOption r (launching.sum_form (sum_seen sum.now) ≡ None)
+        (λ f. launching.sum_form (sum_seen sum.now) ≡ Some (form_seen f))) IsMemory }
     ensures small { IfOk result (λ r. IfSome r (λ f. size (form_seen f) ≤ 8 * 4294967295)) }
 {
     let mut total = Form::constant(alloc, 0);
@@ -147,7 +157,8 @@ fn count_facts(
     dimension: u32,
     range: CountRange,
 ) -> Result<(), WalkError>
-    ensures { MatchResult result (λ _. forms facts.new.items ≡ forms facts.old.items ++ launching.ends (count_range_seen range) (symbols.once (symbols.Groups dimension))) IsMemory }
+    ensures { MatchResult result (λ _. forms facts.new.items
+        ≡ forms facts.old.items ++ launching.ends (count_range_seen range) (symbols.once (symbols.Groups dimension))) IsMemory }
 {
     let count = once_groups(alloc, dimension)?;
     let low = less_number(alloc, &count, range.low as i64)?;
@@ -163,7 +174,8 @@ fn argument_fact(
     range: ArgumentRange,
 ) -> Result<(), WalkError>
     requires { parameter < 2 ^ 59 }
-    ensures { MatchResult result (λ _. forms facts.new.items ≡ forms facts.old.items ++ launching.ends (argument_range_seen range) (symbols.once (symbols.ArgumentOf parameter))) IsMemory }
+    ensures { MatchResult result (λ _. forms facts.new.items ≡ forms facts.old.items
+        ++ launching.ends (argument_range_seen range) (symbols.once (symbols.ArgumentOf parameter))) IsMemory }
 {
     let argument = once_given(alloc, parameter)?;
     let low = less_number(alloc, &argument, number_of(range.low))?;
@@ -177,7 +189,8 @@ fn argument_facts(
     facts: &mut Vec<Form>,
     ranges: &[ArgumentRange],
 ) -> Result<(), WalkError>
-    ensures { MatchResult result (λ _. forms facts.new.items ≡ forms facts.old.items ++ launching.argument_facts 0 (map argument_range_seen ranges.now)) IsMemory }
+    ensures { MatchResult result (λ _. forms facts.new.items
+        ≡ forms facts.old.items ++ launching.argument_facts 0 (map argument_range_seen ranges.now)) IsMemory }
 {
     let mut parameter = 0usize;
     for range in ranges {
@@ -190,7 +203,8 @@ fn argument_facts(
 /// A buffer is as long as its sum; of a sum without a form nothing is said.
 fn least_length(alloc: Global, buffer: usize, least: &Sum) -> Result<Form, WalkError>
     requires { buffer < 2 ^ 59 }
-    ensures { MatchResult result (λ f. form_seen f ≡ launching.difference (Some (symbols.once (symbols.Length buffer))) (launching.sum_form (sum_seen least.now))) IsMemory }
+    ensures { MatchResult result (λ f. form_seen f
+        ≡ launching.difference (Some (symbols.once (symbols.Length buffer))) (launching.sum_form (sum_seen least.now))) IsMemory }
 {
     let Some(sum) = sum_form(alloc, least)? else {
         return Ok(Form::constant(alloc, 0));
@@ -207,7 +221,8 @@ fn length_fact(
     length: &Length,
 ) -> Result<(), WalkError>
     requires { buffer < 2 ^ 59 }
-    ensures { MatchResult result (λ _. forms facts.new.items ≡ forms facts.old.items ++ launching.length_ends buffer (length_sum length.now)) IsMemory }
+    ensures { MatchResult result
+        (λ _. forms facts.new.items ≡ forms facts.old.items ++ launching.length_ends buffer (length_sum length.now)) IsMemory }
 {
     let low = least_length(alloc, buffer, &length.least)?;
     let elements = once_length(alloc, buffer)?;
@@ -217,7 +232,8 @@ fn length_fact(
 
 /// The buffers are as long as their sums.
 fn length_facts(alloc: Global, facts: &mut Vec<Form>, lengths: &[Length]) -> Result<(), WalkError>
-    ensures { MatchResult result (λ _. forms facts.new.items ≡ forms facts.old.items ++ launching.length_facts 0 (map length_sum lengths.now)) IsMemory }
+    ensures { MatchResult result
+        (λ _. forms facts.new.items ≡ forms facts.old.items ++ launching.length_facts 0 (map length_sum lengths.now)) IsMemory }
 {
     let mut buffer = 0usize;
     for length in lengths {
@@ -248,7 +264,8 @@ fn requirement_fact(
     facts: &mut Vec<Form>,
     requirement: &Requirement,
 ) -> Result<(), WalkError>
-    ensures { MatchResult result (λ _. forms facts.new.items ≡ forms facts.old.items ++ launching.required (requirement_seen requirement.now) ∷ []) IsMemory }
+    ensures { MatchResult result (λ _. forms facts.new.items
+        ≡ forms facts.old.items ++ launching.required (requirement_seen requirement.now) ∷ []) IsMemory }
 {
     let fact = required(alloc, requirement)?;
     facts.push(fact)?;
@@ -262,7 +279,8 @@ fn requirement_facts(
     facts: &mut Vec<Form>,
     requirements: &[Requirement],
 ) -> Result<(), WalkError>
-    ensures { MatchResult result (λ _. forms facts.new.items ≡ forms facts.old.items ++ map launching.required (map requirement_seen requirements.now)) IsMemory }
+    ensures { MatchResult result (λ _. forms facts.new.items
+        ≡ forms facts.old.items ++ map launching.required (map requirement_seen requirements.now)) IsMemory }
 {
     for requirement in requirements {
         requirement_fact(alloc, facts, requirement)?;
@@ -301,7 +319,8 @@ fn local_facts(
     dimension: u32,
 ) -> Result<(), WalkError>
     requires { dimension < 3 }
-    ensures { MatchResult result (λ _. forms facts.new.items ≡ forms facts.old.items ++ launching.local_facts (three sizes) (side item) dimension) IsMemory }
+    ensures { MatchResult result (λ _. forms facts.new.items
+        ≡ forms facts.old.items ++ launching.local_facts (three sizes) (side item) dimension) IsMemory }
 {
     let local = once_local(alloc, item, dimension)?;
     let last = number_less(alloc, last_id(sizes, dimension), &local)?;
@@ -315,7 +334,8 @@ fn group_facts(
     item: Side,
     dimension: u32,
 ) -> Result<(), WalkError>
-    ensures { MatchResult result (λ _. forms facts.new.items ≡ forms facts.old.items ++ launching.group_facts (side item) dimension) IsMemory }
+    ensures { MatchResult result
+        (λ _. forms facts.new.items ≡ forms facts.old.items ++ launching.group_facts (side item) dimension) IsMemory }
 {
     let group = once_group(alloc, item, dimension)?;
     let behind = once_groups(alloc, dimension)?.sub(alloc, &group)?;
@@ -332,7 +352,8 @@ fn id_facts(
     dimension: u32,
 ) -> Result<(), WalkError>
     requires { dimension < 3 }
-    ensures { MatchResult result (λ _. forms facts.new.items ≡ forms facts.old.items ++ launching.id_facts (three sizes) (side item) dimension) IsMemory }
+    ensures { MatchResult result
+        (λ _. forms facts.new.items ≡ forms facts.old.items ++ launching.id_facts (three sizes) (side item) dimension) IsMemory }
 {
     local_facts(alloc, facts, sizes, item, dimension)?;
     group_facts(alloc, facts, item, dimension)?;

@@ -26,7 +26,8 @@ pub enum FindingKind {
     Values,
 }
 
-/// Where: an access by its array's name, a barrier, an item's end, an operator or index that faults, a loop's word.
+/// The place of a finding: an access by its array's name, a barrier, an item's end, an operator or index that faults,
+/// or a loop's word.
 #[derive(Clone, Copy, PartialEq, Eq)]
 pub enum Spot {
     Store(Site),

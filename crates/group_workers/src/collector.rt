@@ -76,6 +76,19 @@ impl<J: Logged> Collected<J> {
         Ok(())
     }
 
+    /// Runs the groups that are left, one after the other, and writes the log of each.
+    pub fn run_left(&mut self, alloc: Global, task: Task) -> Result<(), AllocError>
+        requires { IsTask J.logs J.count task }
+        ensures { OnOk result (self.new.next ≡ groups task.entry) }
+    {
+        let count = task.groups();
+        let mut room = Room::new(alloc);
+        while self.next < count {
+            self.run_next(alloc, task, &mut room)?;
+        }
+        Ok(())
+    }
+
     // Writes the log of the next group that stands at an index, if it does.
     fn write_next(&mut self, logs: &Logs<J>, index: usize) -> bool
         ensures wrote { IsTrue result → self.new.next ≡ self.old.next + 1 }

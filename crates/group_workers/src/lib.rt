@@ -12,6 +12,8 @@
 //!
 //! A worker pushes the log of a group into a list that threads share without a lock (`boxcar`), and gives back the indexes that the pushes
 //! answered. When a window's workers are done, the calling thread writes its logs in the order of the groups, and lets the list go.
+//!
+//! Where no thread may be started, the calling thread runs one group after the other, and writes the log of each (`run_groups_here`).
 #![tactic(auto)]
 
 use std::collections::LinkedList;
@@ -23,7 +25,7 @@ mod task;
 mod window;
 mod worker;
 
-pub use running::run_groups;
+pub use running::{run_groups, run_groups_here};
 pub use task::Task;
 
 /// Whether a port owns its deque, its owner's next number, and what it has taken. No value of it is made.

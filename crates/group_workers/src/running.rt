@@ -267,3 +267,31 @@ pub fn run_groups<R: Threads + Wait + Sync, G: Gate>(
 {
     run_as::<Brand, R, G>(rt, alloc, task, workers, gate, buffers)
 }
+
+fn run_as_here<J: Logged>(
+    alloc: Global,
+    task: Task,
+    buffers: &mut Buffers,
+) -> Result<(), AllocError>
+    requires task { IsTask J.logs J.count task }
+    requires before { J.before ≡ words_of buffers.old }
+    ensures { OnOk result (HasLogs (logs_of task.entry) (groups task.entry) (words_of buffers.old) (words_of buffers.new)) }
+{
+    let none = Buffers {
+        words: Vec::new(alloc),
+    };
+    let mut all = Collected::<J>::new(replace(buffers, none));
+    let done = all.run_left(alloc, task);
+    *buffers = all.buffers;
+    done
+}
+
+/// Runs all groups as `run_groups` does, one after the other on the calling thread. No thread is started, and nothing is waited for.
+pub fn run_groups_here(alloc: Global, task: Task, buffers: &mut Buffers) -> Result<(), AllocError>
+    requires proper { is_proper (kernel_seen task.core.now) ≡ true }
+    requires fits { Fits (kernel_seen task.core.now) (launch_seen task.launch.now) }
+    requires code { block_seen task.code.now ≡ lowered (kernel_seen task.core.now) }
+    ensures { OnOk result (HasLogs (logs_of task.entry) (groups task.entry) (words_of buffers.old) (words_of buffers.new)) }
+{
+    run_as_here::<Brand>(alloc, task, buffers)
+}

@@ -82,7 +82,7 @@ pub fn walk<R: Threads + Sync>(
     Ok(Some(noted.with(claims)))
 }
 
-/// Which obligations are asked for: the claims, or the pairs of ends with them.
+/// The extent of the obligations that are asked for: the claims, or the pairs of ends with them.
 #[derive(Clone, Copy, PartialEq, Eq)]
 pub enum Extent {
     Claims,

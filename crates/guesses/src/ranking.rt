@@ -3,7 +3,7 @@
 use certificate::tree::Descent;
 use linear::Form;
 
-/// How the loop of that number may end: where its test is true the form is above 0, and each turn makes it less.
+/// A ranking of the loop of a number: where its test is true the form is above 0, and each turn makes it less.
 #[derive(Drop)]
 pub struct Ranking {
     pub number: u32,

@@ -1,5 +1,5 @@
-//! Section: Program. Promises a host program in C, by numbers alone, of a kernel what `check` promises, and of a launch whether it meets the
-//! conditions; stands on `host_answers`.
+//! Section: Program. Promises a host program in C, by numbers alone, of a kernel what `check` promises, of a launch whether it meets the
+//! conditions, and of a run what `run` promises; stands on `host_answers`.
 //!
 //! What a host program in C calls, from a static library (`kverify.h`). Each call gets texts and numbers and gives numbers. Nothing is kept
 //! between two calls, and no call reads or writes what another one does, so calls may run in any threads at the same time.
@@ -12,8 +12,9 @@ ghost use Rattle.host_answers.specs.Explaining.{IsExplained};
 ghost use Rattle.host_answers.specs.Meeting.{AreMet, IsTrueUnmet};
 ghost use Rattle.host_answers.specs.Options.{devices_by, is_held, source_for};
 ghost use Rattle.host_answers.specs.Putting.{IsPut};
+ghost use Rattle.host_answers.specs.Running.{IsLeft, IsResultPut, IsTrueUnrun};
 
-use host_answers::{Answer, build_words, checked, explained, meets};
+use host_answers::{Answer, build_words, checked, explained, meets, run_kernel};
 use host_launches::{Argument, Range};
 use std::alloc::Global;
 
@@ -87,5 +88,37 @@ pub extern "C" fn kv_meets(
     ensures number { answer.new.number ≡ result }
 {
     *answer = meets(alloc, kernel, conditions, options, range, arguments);
+    answer.number
+}
+
+/// Runs an accepted kernel at a launch, by its text, on the calling thread: 0, and the text of its buffers is put into the room, as far as
+/// there is room, `whole` being its length; or the number of a refusal, which `answer` tells with its place, and nothing is put there.
+#[unsafe(no_mangle)]
+pub extern "C" fn kv_run(
+    alloc: Global,
+    kernel: &[u8],
+    conditions: &[u8],
+    certificate: &[u8],
+    launch: &[u8],
+    options: u32,
+    room: &mut [u8],
+    whole: &mut u64,
+    answer: &mut Answer,
+) -> u32
+    ensures ran { result ≡ 0 → IsResultPut (devices_by options) kernel.now conditions.now launch.now room.old room.new whole.new }
+    ensures refused { result ≢ 0 → IsTrueUnrun (devices_by options) kernel.now conditions.now certificate.now launch.now answer.new }
+    ensures left { result ≢ 0 → IsLeft room.old room.new whole.new }
+    ensures number { answer.new.number ≡ result }
+{
+    *answer = run_kernel(
+        alloc,
+        kernel,
+        conditions,
+        certificate,
+        launch,
+        options,
+        room,
+        whole,
+    );
     answer.number
 }

@@ -1,4 +1,4 @@
--- No refusal by a check has the number 0.
+-- No refusal by a check, of a launch's text or by a run has the number 0.
 use Rattle.std.proofs.Common.{◌≢◌}
 use Rattle.texts.specs.Faults as plain_tokens
 use Rattle.texts.specs.ParseFaults as plain_trees
@@ -52,6 +52,9 @@ use Rattle.entry_check.specs.declared.error.ShowError.TheVariants as show_errors
 use Rattle.cert_check.specs.Numbers as checks
 use Rattle.cert_check.specs.declared.error.CheckError.{CheckError}
 use Rattle.cert_check.specs.declared.error.CheckError.TheVariants as errors
+use Rattle.executor.specs.Numbers as runs
+use Rattle.executor.specs.declared.error.RunError.{RunError}
+use Rattle.executor.specs.declared.error.RunError.TheVariants as run_errors
 
 plain_token : (f : plain_tokens.TextFault) → plain_tokens.fault_number f ≢ 0
 plain_token plain_tokens.BadByte h = cc
@@ -128,7 +131,7 @@ of_plain (plain_errors.Tree tree_errors.Memory) h = cc
 of_plain (plain_errors.Types (type_errors.At f s)) h = plain_type (plain_types_seen.fault f) h
 of_plain (plain_errors.Types type_errors.Memory) h = cc
 
-of_conditions : (e : LaunchTextError) → launches_seen.error_number e ≢ 0
+pub of_conditions : (e : LaunchTextError) → launches_seen.error_number e ≢ 0
 of_conditions (launch_errors.Refused f n) h = line (launches_seen.fault f) h
 of_conditions launch_errors.Memory h = cc
 
@@ -174,3 +177,9 @@ of_check (errors.Missed site) h = cc
 of_check (errors.Certificate e) h = of_certificate e h
 of_check (errors.ManyPaths site) h = cc
 of_check (errors.Show e) h = of_show e h
+
+pub of_run : (e : RunError) → runs.error_number e ≢ 0
+of_run (run_errors.Condition e) h = cc
+of_run run_errors.Workers h = cc
+of_run run_errors.Unreckoned h = cc
+of_run run_errors.Memory h = cc

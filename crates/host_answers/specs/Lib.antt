@@ -5,3 +5,4 @@ pub mod Putting
 pub mod Readings
 pub mod Explaining
 pub mod Building
+pub mod Running

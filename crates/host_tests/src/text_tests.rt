@@ -1,7 +1,7 @@
 //! What a host is answered of texts.
 
 use crate::giving::{along, buffer, local, value};
-use host_answers::{build_words, checked, explained, meets};
+use host_answers::{build_words, checked, explained, meets, run_kernel};
 use host_launches::{Argument, Range};
 use std::alloc::Global;
 
@@ -103,4 +103,78 @@ fn definitions_are_words_of_a_build(rt: HostRuntime) {
     let count = build_words(rt.alloc(), CONDITIONS, &mut room);
     let wanted = b"-DCOUNT=1/**/+/**/2 -DFLAG -DTWICE(a)=(a)/**/*/**/2";
     assert!(rt; count == 51 && room.as_slice().starts_with(wanted.as_slice()));
+}
+
+const FILL: &[u8] =
+    b"kernel __attribute__((reqd_work_group_size(2, 1, 1))) void fill(global uint *a, uint word) {
+  a[get_global_id(0)] = word;
+}
+";
+
+const FILL_CONDITIONS: &[u8] = b"conditions 1
+groups 1..2 1..1 1..1
+arg word 0..9
+length a >= 2*groups.0
+budget 1
+";
+
+const FILL_CERTIFICATE: &[u8] = b"certificate 2
+ob 2 show
+g 9
+g 12
+g 14
+g 23
+s 1 1 1 2 2 3 1 4
+ob 3 show
+g 36
+g 41
+g 42
+s 2 1 1 2 1 3
+ob 4 show
+g 35
+g 41
+g 43
+s 2 1 1 2 1 3
+ob 5 show
+g 12
+g 23
+g 35
+g 36
+s 1 1 1 2 2 3 1 4
+ob 6 show
+g 11
+g 24
+g 35
+g 37
+s 1 1 1 2 2 3 1 4
+end
+";
+
+/// What is told of a run of `fill`: number, place and length.
+fn told_of_run(alloc: Global, launch: &[u8], room: &mut [u8]) -> (u32, u64, u64) {
+    let mut whole = 0;
+    let answer = run_kernel(
+        alloc,
+        FILL,
+        FILL_CONDITIONS,
+        FILL_CERTIFICATE,
+        launch,
+        0,
+        room,
+        &mut whole,
+    );
+    (answer.number, answer.place, whole)
+}
+
+#[test]
+fn a_launch_is_run(rt: HostRuntime) {
+    let alloc = rt.alloc();
+    let mut room = [0u8; 24];
+    let launch = b"launch 1\ngroups 1 1 1\narg word 7\nbuffer a list 1 2 3\nfill 0\n";
+    assert!(rt; told_of_run(alloc, launch, &mut room) == (0, 0, 20));
+    assert!(rt; room.as_slice().starts_with(b"buffer a list 7 7 3\n"));
+    let unmet = b"launch 1\ngroups 1 1 1\narg word 10\nbuffer a list 1 2 3\nfill 0\n";
+    assert!(rt; told_of_run(alloc, unmet, &mut room) == (40, 3, 0));
+    assert!(rt; told_of_run(alloc, b"launch 1\n", &mut room) == (32, 2, 0));
+    assert!(rt; room.as_slice().starts_with(b"buffer a list 7 7 3\n"));
 }

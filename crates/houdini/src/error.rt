@@ -5,7 +5,7 @@ ghost use Rattle.std.specs.Prelude.{◌≡◌};
 use board::BoardError;
 use thiserror::Error;
 
-/// Why candidates were not settled: a wrong number of workers, or want of memory.
+/// The reasons for which candidates are not settled: a wrong number of workers, or want of memory.
 #[derive(Debug, Drop, Error)]
 pub enum SettleError {
     /// The number of workers is not 1 to 64.

@@ -36,13 +36,15 @@ pub record NameMap : Type 0 where
   pub statements : List Standing
 
 abbrev pub with_statement : (number : ℕ) → Site → Sort → (last : ℕ) → NameMap → NameMap
-with_statement n site sort last m = record m { statements = m.statements ++ record { number = n; site = site; sort = sort; last = last } ∷ [] }
+with_statement n site sort last m = record m
+    { statements = m.statements ++ record { number = n; site = site; sort = sort; last = last } ∷ [] }
 
 abbrev pub with_array : (name : List ℕ) → Site → NameMap → NameMap
 with_array name site m = record m { arrays = m.arrays ++ record { name = name; site = site } ∷ [] }
 
 abbrev pub with_variable : (name : List ℕ) → Site → (first last : ℕ) → NameMap → NameMap
-with_variable name site first last m = record m { variables = m.variables ++ record { name = name; site = site; first = first; last = last } ∷ [] }
+with_variable name site first last m = record m
+    { variables = m.variables ++ record { name = name; site = site; first = first; last = last } ∷ [] }
 
 -- the last number in a statement, and the last one among statements, before which another stands
 abbrev mutual

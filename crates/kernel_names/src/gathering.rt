@@ -21,7 +21,8 @@ impl NameMap {
         sort: Sort,
         last: u32,
     ) -> Result<(), AllocError>
-        ensures { OnOk result (names_seen self.new ≡ maps.with_statement number (site_seen site) (sort_seen sort) last (names_seen self.old)) }
+        ensures { OnOk result
+            (names_seen self.new ≡ maps.with_statement number (site_seen site) (sort_seen sort) last (names_seen self.old)) }
     {
         self.statements.push(Standing {
             number,
@@ -47,7 +48,8 @@ impl NameMap {
         first: u32,
         last: u32,
     ) -> Result<(), AllocError>
-        ensures { OnOk result (names_seen self.new ≡ maps.with_variable (declaration_seen declaration.now).name (declaration_seen declaration.now).name_site first last (names_seen self.old)) }
+        ensures { OnOk result (names_seen self.new ≡ maps.with_variable (declaration_seen declaration.now).name
+            (declaration_seen declaration.now).name_site first last (names_seen self.old)) }
     {
         let name = String::from_str(alloc, declaration.name.as_str())?;
         self.variables.push(Variable {

@@ -17,8 +17,8 @@ use core_code::tree::Site;
 pub use gathering::names_of;
 use syntax::tree::Parameter;
 
-/// A private variable. Slots count them in this order, behind the value parameters. It is visible in the statements of the numbers `first` to
-/// `last`, in a loop from its test on.
+/// A private variable. Slots count them in this order, behind the value parameters. It is visible in the statements of
+/// the numbers `first` to `last`, in a loop from its test on.
 #[derive(Drop)]
 pub struct Variable {
     pub name: String,
@@ -34,7 +34,7 @@ pub struct LocalName {
     pub site: Site,
 }
 
-/// What a statement is: a loop turns, at a barrier items wait.
+/// The sort of a statement: a loop turns, and at a barrier items wait.
 #[derive(Clone, Copy)]
 pub enum Sort {
     Turning,
@@ -51,7 +51,7 @@ pub struct Standing {
     pub last: u32,
 }
 
-/// What is told of a kernel beside its core.
+/// The names that are told of a kernel beside its core.
 #[derive(Drop)]
 pub struct NameMap {
     pub parameters: Vec<Parameter>,

@@ -53,7 +53,7 @@ pub struct Source<'a> {
     pub bytes: &'a [u8],
 }
 
-/// Why a text is no kernel, in the language that it was read in last.
+/// The reasons for which a text is no kernel, in the language that it was read in last.
 #[derive(Debug, Drop, Error)]
 pub enum KernelError {
     #[error("{0}")]
@@ -159,7 +159,7 @@ fn head_in<'a>(alloc: Global, text: &'a [u8]) -> Result<Head<'a>, LaunchTextErro
     })
 }
 
-/// What OpenCL C has for the bytes, with this head.
+/// Reads the bytes as OpenCL C, with this head.
 fn read_opencl(alloc: Global, head: &Head<'_>, text: Source<'_>) -> Result<Typed, KernelError>
     ensures { Gives result (kernels.of_opencl (kernels.as_opencl (texts.head head.now) (source text.entry))) }
 {
@@ -169,7 +169,8 @@ fn read_opencl(alloc: Global, head: &Head<'_>, text: Source<'_>) -> Result<Typed
     }
 }
 
-/// What is read where a text is no plain one.
+/// Reads a text that is no plain one: as OpenCL C, where that is allowed and the error was a fault of the text, and
+/// else the error stays.
 fn read_other(
     alloc: Global,
     head: &Head<'_>,
@@ -192,7 +193,7 @@ fn read_other(
     }
 }
 
-/// What is read where there is no head.
+/// Reads a text without a head, first as a plain one.
 fn read_alone(alloc: Global, head: &Head<'_>, text: Source<'_>) -> Result<Typed, KernelError>
     requires { kernels.is_silent (texts.head head.now) ≡ true }
     ensures { Gives result (kernels.read_with (texts.head head.now) (source text.entry)) }
@@ -203,7 +204,7 @@ fn read_alone(alloc: Global, head: &Head<'_>, text: Source<'_>) -> Result<Typed,
     }
 }
 
-/// What is read where there is a head, of which the plain language knows nothing.
+/// Reads a text with a head, as OpenCL C alone, since the plain language has no head.
 fn read_headed(alloc: Global, head: &Head<'_>, text: Source<'_>) -> Result<Typed, KernelError>
     requires { kernels.is_silent (texts.head head.now) ≡ false }
     ensures { Gives result (kernels.read_with (texts.head head.now) (source text.entry)) }
@@ -214,7 +215,7 @@ fn read_headed(alloc: Global, head: &Head<'_>, text: Source<'_>) -> Result<Typed
     }
 }
 
-/// What is read of a text with this head.
+/// Reads a text with a head that may be empty.
 fn read_with(alloc: Global, head: &Head<'_>, text: Source<'_>) -> Result<Typed, KernelError>
     ensures { Gives result (kernels.read_with (texts.head head.now) (source text.entry)) }
 {
@@ -225,8 +226,8 @@ fn read_with(alloc: Global, head: &Head<'_>, text: Source<'_>) -> Result<Typed, 
     }
 }
 
-/// The kernel of a text, typed, or its first fault with its place (of the plain language numbers 1 to 5, 10 to 12, 20 to 28). A fault of the
-/// head of the conditions comes first.
+/// The kernel of a text, typed, or its first fault with its place (of the plain language numbers 1 to 5, 10 to 12, 20
+/// to 28). A fault of the head of the conditions comes first.
 pub fn read_source(alloc: Global, text: Source<'_>) -> Result<Typed, KernelError>
     ensures { Gives result (read (source text.entry)) }
 {

@@ -7,7 +7,7 @@ use std::fs::OpenOptions;
 use std::io::{ErrorKind, Read, Write};
 use std::{fs, io};
 
-/// How many names are tried for a file beside another one.
+/// The most names that are tried for a file beside another one.
 const MOST_NAMES: u32 = 100;
 
 /// The files of the system; what they have is not known.

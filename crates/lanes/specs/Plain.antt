@@ -1,4 +1,5 @@
--- Launches that lane code is for: sizes are exact, and what the device gives for an operation that is not reckoned does not heed when it is done.
+-- Launches that lane code is for: sizes are exact, and what the device gives for an operation that is not reckoned does not heed
+-- when it is done.
 use Rattle.std.specs.Prelude.{◌≡◌, ℕ, ℤ, List}
 use Rattle.semantics.specs.Word.{Exact}
 use Rattle.semantics.specs.Launch.{Operation}

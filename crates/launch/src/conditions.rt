@@ -41,7 +41,7 @@ pub enum Dimension {
     Z,
 }
 
-/// What a product has two of: an argument (by its number among the value parameters) or a group count.
+/// A factor of a product: an argument, by its number among the value parameters, or a group count.
 #[derive(Clone, Copy)]
 pub enum Factor {
     Argument(u32),

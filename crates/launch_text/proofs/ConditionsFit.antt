@@ -13,7 +13,7 @@ use Rattle.texts.specs.Surface.{Parameter, Buffer, Value}
 use Rattle.launch_text.specs.LaunchFaults.{Expected, UnknownName, LimitPassed, Cursor, Step, cursor, refused, then, expect, end_line}
 use Rattle.launch_text.specs.LaunchWords.{natural_at, word_at, name_at, is_known, end_text, due_blank, due_parameter, first_word, several}
 use Rattle.launch_text.specs.LaunchSums.{sum_at, buffer_number, buffer_found, buffer_at}
-use Rattle.launch_text.specs.ConditionsReading.{CountRange, ArgumentRange, Length, Requirement, ContentLine, Lined, length_meant, requirement_meant, content_meant, counts_at, three_counts_at, groups_line, argument_at, argument_line, argument_due, argument_lines, length_of, length_line, length_due, length_lines, requirement_line, requirement_lines, end_at, content_of, content_line, content_lines, budget_line, lined, version_line, conditions_at, conditions_of}
+use Rattle.launch_text.specs.ConditionsReading.{CountRange, ArgumentRange, Length, Requirement, ContentLine, Lined, length_meant, requirement_meant, content_meant, counts_at, three_counts_at, groups_line, argument_at, argument_line, argument_due, argument_lines, length_of, length_line, length_due, length_lines, requirement_line, requirement_lines, end_at, content_of, content_line, content_lines, budget_at, lined, version_line, is_third, conditions_at, conditions_of}
 use Rattle.launch_text.specs.Fits.{AreCounts, IsRange, IsLength, IsOf}
 use Rattle.launch_text.proofs.Back.{then_back, same_back, when_back, unless_back, natural_back, word_back}
 use Rattle.kernel_names.specs.Parameters.{kinds, value_kind, buffer_kind}
@@ -186,7 +186,7 @@ lines_fit may kernel ps own shared c x e =
     let lengths = then_back (length_lines products ps arguments.0.1) _ x arguments.2 in
     let requires = then_back (requirement_lines products ps lengths.0.1) _ x lengths.2 in
     let contents = then_back (content_lines products ps requires.0.1) _ x requires.2 in
-    let budget = then_back (budget_line contents.0.1) _ x contents.2 in
+    let budget = then_back (budget_at (is_third may c) contents.0.1) _ x contents.2 in
     let end = then_back (end_text budget.0.1) _ x budget.2 in
     let q : lined groups.0.0 head.line arguments.0.0 lengths.0.0 requires.0.0 contents.0.0 budget.0.0 ≡ x = same_back _ x end.2 in
     let counts = groups_fit head groups.0 groups.1 in

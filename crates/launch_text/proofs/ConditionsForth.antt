@@ -17,8 +17,8 @@ use Rattle.texts.specs.Spelling.{SpellsParameters}
 use Rattle.launch_text.specs.LaunchFaults.{Cursor, Step, cursor, expect, end_line}
 use Rattle.launch_text.specs.LaunchWords.{Conditions, due, due_blank, due_parameter, first_word, each, several}
 use Rattle.launch_text.specs.LaunchSums.{buffer_number, buffer_at}
-use Rattle.launch_text.specs.ConditionsReading.{Length, Requirement, ContentLine, Lined, length_meant, requirement_meant, content_meant, meant, length_of, length_line, length_due, requirement_of, requirement_line, end_at, content_of, content_line, content_lines, budget_line, lined, version_at, numbered_line, headed_line, version_line, conditions_at, conditions_limit, conditions_of, head_behind, head_of}
-use Rattle.launch_text.specs.ConditionsText.{IsShortSum, groups_text, length_text, requirement_text, end_text, content_text, budget_text, AreLengthLines, no_length, past_value, a_length, AreRequirementLines, no_requirement, a_requirement, AreContentLines, no_content, a_content, IsOpening, one, two, three, head_in, AreConditionsLines, IsConditionsText}
+use Rattle.launch_text.specs.ConditionsReading.{Length, Requirement, ContentLine, Lined, length_meant, requirement_meant, content_meant, meant, length_of, length_line, length_due, requirement_of, requirement_line, end_at, content_of, content_line, content_lines, budget_line, budget_at, lined, version_at, numbered_line, headed_line, version_line, is_third, conditions_at, conditions_limit, conditions_of, head_behind, head_of}
+use Rattle.launch_text.specs.ConditionsText.{IsShortSum, groups_text, length_text, requirement_text, end_text, content_text, budget_text, AreLengthLines, no_length, past_value, a_length, AreRequirementLines, no_requirement, a_requirement, AreContentLines, no_content, a_content, IsOpening, one, two, three, head_in, is_three, IsBudget, given, greatest, AreConditionsLines, IsConditionsText}
 use Rattle.launch_text.specs.Parameters.{AreNamed}
 use Rattle.launch_text.proofs.Back.{same_back}
 use Rattle.launch_text.proofs.Several.{several_over, several_more}
@@ -215,6 +215,25 @@ unfolding budget_line
 budget_forth m n a b =
     rw (budget_due (decimal m ++ 10 ∷ []) n, natural_forth 1 1000000000000 m (10 ∷ []) n a b (omega arith) refl, end_forth [] n) refl
 
+-- a text that opens as one of version 3 is read as one
+third_forth : (may products : Bool) (opening rest : List ℕ) (o : IsOpening products opening) → (products ≡ true → may ≡ true) → is_three o ≡ true → is_third may (cursor 1 (opening ++ rest)) ≡ true
+third_forth may products opening rest one h so = absurd cc
+third_forth may products opening rest two h so = absurd cc
+third_forth true products opening rest (three head is) h so = refl
+third_forth false products opening rest (three head is) h so = let k = h refl in absurd cc
+
+last_forth : (p q : Bool) (line : List ℕ) (m n : ℕ) → (p ≡ true → q ≡ true) → IsBudget p line m → (k : ℕ) × (budget_at q (cursor n line) ≡ Ok (m, cursor k []))
+unfolding budget_at
+last_forth p true line m n f (given w a b) = (n + 1, budget_forth m n a b)
+last_forth p false line m n f (given w a b) = (n + 1, budget_forth m n a b)
+last_forth p true line m n f greatest = (n, refl)
+last_forth p false line m n f greatest = let k = f refl in absurd cc
+
+-- neither a requirement nor a line of values
+no_other_last : (p : Bool) (line : List ℕ) (m : ℕ) → IsBudget p line m → (bytes_eq (first_word line) (codes "require") ≡ false) × (bytes_eq (first_word line) (codes "values") ≡ false)
+no_other_last p line m (given w a b) = (refl, refl)
+no_other_last p line m greatest = (refl, refl)
+
 made : (c : meaning.Conditions) (groups : Three Range) (arguments : List Range) (lengths : List (List Summand)) (requires : List meaning.Requirement) (contents : List meaning.Content) → groups ≡ c.groups → arguments ≡ c.arguments → lengths ≡ c.lengths → requires ≡ c.requires → contents ≡ c.contents
     → (let d : meaning.Conditions = record { groups = groups; arguments = arguments; lengths = lengths; requires = requires; contents = contents; budget = c.budget } in d ≡ c)
 made c groups arguments lengths requires contents p q r s t = rw (p, q, r, s, t) refl
@@ -222,7 +241,8 @@ made c groups arguments lengths requires contents p q r s t = rw (p, q, r, s, t)
 lines_forth : (may products : Bool) (ps : List Parameter) (text : List ℕ) (c : meaning.Conditions) → AreNamed ps → (products ≡ true → may ≡ true) → AreConditionsLines products ps text c → (l : Lined) × (conditions_at may ps (cursor 1 text) ≡ Ok l) × (meant l ≡ c)
 unfolding conditions_at
 lines_forth may products ps text c i may_have t =
-    let last : List ℕ = budget_text c.budget in
+    let last : List ℕ = t.budget_line in
+    let others = no_other_last (is_three t.opens) last c.budget t.budget in
     let behind_requires : List ℕ = t.content_lines ++ last in
     let behind_lengths : List ℕ = t.requirement_lines ++ behind_requires in
     let behind_arguments : List ℕ = t.length_lines ++ behind_lengths in
@@ -231,8 +251,10 @@ lines_forth may products ps text c i may_have t =
     let groups = groups_forth c.groups body version.0 t.counts_x t.counts_y t.counts_z t.few_groups in
     let arguments = arguments_forth ps [] ps t.argument_lines c.arguments behind_arguments (version.0 + 1) i t.arguments in
     let lengths = lengths_forth products ps [] ps t.length_lines c.lengths behind_lengths arguments.line i i t.lengths in
-    let requires = requirements_forth products ps 16 [] t.requirement_lines c.requires behind_requires lengths.line i t.requires t.few_requires (no_requirement_next products ps t.content_lines c.contents last t.contents refl) in
-    let contents = held_forth products ps t.content_lines c.contents last requires.line i t.contents t.few_contents refl in (
+    let requires = requirements_forth products ps 16 [] t.requirement_lines c.requires behind_requires lengths.line i t.requires t.few_requires (no_requirement_next products ps t.content_lines c.contents last t.contents others.0) in
+    let contents = held_forth products ps t.content_lines c.contents last requires.line i t.contents t.few_contents others.1 in
+    let all : List ℕ = t.opening ++ (groups_text c.groups ++ body) in
+    let budget = last_forth (is_three t.opens) (is_third may (cursor 1 all)) last c.budget contents.line (third_forth may products t.opening (groups_text c.groups ++ body) t.opens may_have) t.budget in (
       lined groups.groups version.0 arguments.read lengths.read requires.read contents.read c.budget,
       rw (
         t.is_text,
@@ -242,8 +264,8 @@ lines_forth may products ps text c i may_have t =
         lengths.is_read,
         requires.is_read,
         contents.is_read,
-        budget_forth c.budget contents.line t.budget.0 t.budget.1,
-        end_text_forth (contents.line + 1),
+        budget.1,
+        end_text_forth budget.0,
       ) refl,
       made c _ _ _ _ _ groups.is_meant arguments.is_meant lengths.is_meant requires.is_meant contents.is_meant,
     )
@@ -262,7 +284,7 @@ conditions_forth may ps text c i t =
 pub head_forth_of : (may : Bool) (ps : List Parameter) (text : List ℕ) (c : meaning.Conditions) (t : IsConditionsText may ps text c) → head_of text ≡ Ok (head_in t.lines.opens)
 head_forth_of may ps text c t =
     let l = t.lines in
-    let body : List ℕ = l.argument_lines ++ (l.length_lines ++ (l.requirement_lines ++ (l.content_lines ++ budget_text c.budget))) in
+    let body : List ℕ = l.argument_lines ++ (l.length_lines ++ (l.requirement_lines ++ (l.content_lines ++ l.budget_line))) in
     cond-false (nat_lt conditions_limit (length text)) _ _ (not_above conditions_limit (length text) t.within_limit)
     ∙ ap (λ bytes. head_behind (cursor 1 bytes)) l.is_text ∙ behind_forth t.has_products l.opening (groups_text c.groups ++ body) l.opens refl
 

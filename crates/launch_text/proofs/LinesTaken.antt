@@ -1,8 +1,8 @@
 -- What a line's reader took from the front is that line.
 use Rattle.std.proofs.Common.{◌≡◌, ℕ, zero, suc, ◌*◌, ◌≤◌, Bool, true, false, nat_le, nat_lt, List, [], ◌∷◌, ◌++◌, length, map, Option, Some, None, Ok, refl, ap, sym, ◌∙◌, subst, append_assoc, arith}
-use Rattle.std.specs.Prelude.{pos, ◌≤ℤ◌, ◌*ℤ◌, int_le, bytes_eq, codes}
+use Rattle.std.specs.Prelude.{◌&&◌, pos, ◌≤ℤ◌, ◌*ℤ◌, int_le, bytes_eq, codes}
 use Rattle.std.specs.Fmt.{decimal, signed_decimal}
-use Rattle.std.proofs.lemmas.Bool.{cond_both}
+use Rattle.std.proofs.lemmas.Bool.{cond_both, and_parts}
 use Rattle.std.proofs.lemmas.Bool.Decides.{nat_tests}
 use Rattle.std.proofs.lemmas.Int.{ints}
 use Rattle.std.proofs.lemmas.List.{append-nil}
@@ -13,8 +13,9 @@ use Rattle.texts.specs.Surface.{Parameter, Buffer, Value}
 use Rattle.launch_text.specs.LaunchFaults.{Expected, UnknownName, LimitPassed, EmptyRange, Cursor, Step, refused, then, sees, past, expect, end_line}
 use Rattle.launch_text.specs.LaunchWords.{Conditions, natural_at, word_at, name_at, is_known, due_blank, due_parameter, first_word, each, several}
 use Rattle.launch_text.specs.LaunchSums.{sum_at, buffer_number, buffer_found, buffer_at}
-use Rattle.launch_text.specs.ConditionsReading.{CountRange, ArgumentRange, Length, Requirement, ContentLine, counts_meant, argument_meant, length_meant, requirement_meant, content_meant, counts_between, counts_at, words_between, three_counts_at, three, groups_line, argument_at, argument_line, argument_due, length_of, length_line, length_due, requirement_of, requirement_line, requirement_lines, end_at, content_of, content_line, content_lines, budget_line}
-use Rattle.launch_text.specs.ConditionsText.{IsShortSum, range_text, AreCounts, AreOfKind, groups_text, argument_text, length_text, requirement_text, end_text, content_text, budget_text, AreArgumentLines, no_argument, past_buffer, an_argument, AreLengthLines, no_length, past_value, a_length, AreRequirementLines, no_requirement, a_requirement, AreContentLines, no_content, a_content}
+use Rattle.launch_text.specs.ConditionsReading.{CountRange, ArgumentRange, Length, Requirement, ContentLine, counts_meant, argument_meant, length_meant, requirement_meant, content_meant, counts_between, counts_at, words_between, three_counts_at, three, groups_line, argument_at, argument_line, argument_due, length_of, length_line, length_due, requirement_of, requirement_line, requirement_lines, end_at, content_of, content_line, content_lines, budget_line, budget_at}
+use Rattle.launch_text.specs.ConditionsText.{IsShortSum, range_text, AreCounts, AreOfKind, groups_text, argument_text, length_text, requirement_text, end_text, content_text, budget_text, AreArgumentLines, no_argument, past_buffer, an_argument, AreLengthLines, no_length, past_value, a_length, AreRequirementLines, no_requirement, a_requirement, AreContentLines, no_content, a_content, IsBudget, given, greatest}
+use Rattle.lines.specs.Lines.{is_empty}
 use Rattle.lines.proofs.Fronts.{begins}
 use Rattle.launch.proofs.Unmet.{le-true}
 use Rattle.launch_text.proofs.Back.{then_back, same_back, when_back, unless_back, natural_back, word_back}
@@ -374,6 +375,31 @@ budget_took c t e =
       budget_whole n.0.0 d.0.rest c.rest a.0.rest n.0.1.rest (due_blank_took Conditions (codes "budget") c a.0 a.1) (natural_took 1 1000000000000 a.0 n.0 n.1) (end_took n.0.1 d.0 d.1),
       natural_back 1 1000000000000 a.0 n.0 n.1,
     )
+
+pub greatest_of : (may_lack : Bool) → may_lack ≡ true → IsBudget may_lack [] 1000000000000
+greatest_of true h = greatest
+greatest_of false h = absurd cc
+
+-- what the last line is, if there is one
+pub record TookLast (may_lack : Bool) (c : Cursor) (t : ℕ × Cursor) : Type 0 where
+  pub line : List ℕ
+  pub is_budget : IsBudget may_lack line t.0
+  pub rest : c.rest ≡ line ++ t.1.rest
+
+pub last_took : (may_lack : Bool) (c : Cursor) (t : ℕ × Cursor) → budget_at may_lack c ≡ Ok t → TookLast may_lack c t
+unfolding budget_at
+last_took may_lack c t e =
+    cond_both (may_lack && is_empty c.rest) (Ok (1000000000000, c)) (budget_line c) (λ s. s ≡ Ok t → TookLast may_lack c t)
+    (λ h f. subst (λ (u : ℕ × Cursor). TookLast may_lack c u) (same_back (1000000000000, c) t f) (record {
+      line = [];
+      is_budget = greatest_of may_lack (and_parts may_lack (is_empty c.rest) h).0;
+      rest = refl;
+    }))
+    (λ _ f. let own = budget_took c t f in record {
+      line = budget_text t.0;
+      is_budget = given t.0 own.1.0 own.1.1;
+      rest = own.0;
+    }) e
 
 pub not_above : (a b : ℕ) → nat_lt a b ≡ false → b ≤ a
 not_above a b h = grind (arith, nat_tests)

@@ -6,7 +6,7 @@ use Rattle.std.proofs.lemmas.Bool.{cond-false}
 use Rattle.texts.specs.Surface.{Parameter}
 use Rattle.launch_text.specs.LaunchFaults.{LimitPassed, Cursor, Step, cursor, then, sees, past, end_line}
 use Rattle.launch_text.specs.LaunchWords.{Conditions, due}
-use Rattle.launch_text.specs.ConditionsReading.{Lined, version_at, numbered_line, headed_line, is_headed, version_line, conditions_at, conditions_limit, conditions_of}
+use Rattle.launch_text.specs.ConditionsReading.{Lined, version_at, numbered_line, headed_line, is_headed, version_line, is_third, conditions_at, conditions_limit, conditions_of}
 use Rattle.launch_text.proofs.Taken.{due_took}
 
 -- a text says neither version
@@ -44,9 +44,12 @@ head_alike : (c : Cursor) → IsNarrow c.rest → version_line true c ≡ versio
 unfolding version_line
 head_alike c h = behind_word c (due Conditions (codes "conditions") c) refl h
 
+third_alike : (c : Cursor) → IsNarrow c.rest → is_third true c ≡ is_third false c
+third_alike c h = h.1
+
 lines_alike : (ps : List Parameter) (c : Cursor) → IsNarrow c.rest → conditions_at true ps c ≡ conditions_at false ps c
 unfolding conditions_at
-lines_alike ps c h = rw (head_alike c h) refl
+lines_alike ps c h = rw (head_alike c h, third_alike c h) refl
 
 pub read_alike : (ps : List Parameter) (text : List ℕ) → IsNarrow text → conditions_of true ps text ≡ conditions_of false ps text
 read_alike ps text h =

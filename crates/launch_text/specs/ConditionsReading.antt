@@ -1,5 +1,6 @@
 -- Reading a conditions text: its lines in order, each condition with its line, or the first fault.
 use Rattle.std.specs.Prelude.{ℕ, ◌+◌, ◌*◌, pos, List, [], map, length, drop, Bool, true, false, cond, ◌&&◌, nat_le, nat_lt, int_le, Option, None, Some, Ok, Err, codes}
+use Rattle.lines.specs.Lines.{is_empty}
 use Rattle.semantics.specs.Word.{Kind, Word}
 use Rattle.semantics.specs.Launch.{Three}
 use Rattle.semantics.specs.Conditions as meaning
@@ -167,6 +168,10 @@ unfoldable pub budget_line : Cursor → Step (ℕ × Cursor)
 budget_line c =
     then (due_blank Conditions (codes "budget") c) (λ a. then (natural_at 1 1000000000000 a) (λ t. then (end_line t.1) (λ d. Ok (t.0, d))))
 
+-- the line may be left out in texts of version 3, whose budget is the greatest then
+unfoldable pub budget_at : (may_lack : Bool) → Cursor → Step (ℕ × Cursor)
+budget_at may_lack c = cond (may_lack && is_empty c.rest) (Ok (1000000000000, c)) (budget_line c)
+
 abbrev pub lined : Three CountRange → (groups_line : ℕ) → List ArgumentRange → List Length → List Requirement → List ContentLine → ℕ → Lined
 lined groups groups_line arguments lengths requires contents budget =
     record { groups = groups; groups_line = groups_line; arguments = arguments; lengths = lengths; requires = requires; contents = contents; budget = budget }
@@ -192,12 +197,16 @@ unfoldable pub version_line : (may_be_two : Bool) → Cursor → Step (Bool × C
 version_line may_be_two c =
     then (due Conditions (codes "conditions") c) (λ a. cond (is_headed may_be_two a) (headed_line (past 2 a)) (numbered_line may_be_two a))
 
+-- whether a text, at its begin, is one of version 3
+abbrev pub is_third : (may_be_two : Bool) → Cursor → Bool
+is_third may_be_two c = may_be_two && sees (codes "conditions 3") c
+
 -- all lines
 unfoldable pub conditions_at : (may_be_two : Bool) → List Parameter → Cursor → Step Lined
 conditions_at may_be_two ps c =
     then (version_line may_be_two c) (λ v. then (groups_line v.1) (λ groups. then (argument_lines ps groups.1) (λ arguments.
     then (length_lines v.0 ps arguments.1) (λ lengths. then (requirement_lines v.0 ps lengths.1) (λ requires. then (content_lines v.0 ps requires.1) (λ contents.
-    then (budget_line contents.1) (λ budget. then (end_text budget.1) (λ _. Ok (lined groups.0 v.1.line arguments.0 lengths.0 requires.0 contents.0 budget.0)))))))))
+    then (budget_at (is_third may_be_two c) contents.1) (λ budget. then (end_text budget.1) (λ _. Ok (lined groups.0 v.1.line arguments.0 lengths.0 requires.0 contents.0 budget.0)))))))))
 
 -- the longest conditions text, in bytes
 abbrev pub conditions_limit : ℕ

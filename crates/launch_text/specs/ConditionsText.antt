@@ -184,6 +184,19 @@ head_in one = no_head
 head_in two = no_head
 head_in (three h is) = h
 
+-- whether an opening is that of version 3
+abbrev pub is_three : {has_products : Bool} {opening : List ℕ} → IsOpening has_products opening → Bool
+is_three one = false
+is_three two = false
+is_three (three h is) = true
+
+-- the last line, and the budget that it says
+pub data IsBudget : (may_lack : Bool) → List ℕ → ℕ → Type 0 where
+  -- `budget N`
+  given : {may_lack : Bool} (n : ℕ) → 1 ≤ n → n ≤ 1000000000000 → IsBudget may_lack (budget_text n) n
+  -- in texts of version 3 it may be left out: the greatest
+  greatest : IsBudget true [] 1000000000000
+
 -- these lines, one after another, and nothing else
 pub record AreConditionsLines (has_products : Bool) (ps : List Parameter) (text : List ℕ) (c : Conditions) : Type 0 where
   pub opening : List ℕ
@@ -191,7 +204,8 @@ pub record AreConditionsLines (has_products : Bool) (ps : List Parameter) (text 
   pub length_lines : List ℕ
   pub requirement_lines : List ℕ
   pub content_lines : List ℕ
-  pub is_text : text ≡ opening ++ (groups_text c.groups ++ (argument_lines ++ (length_lines ++ (requirement_lines ++ (content_lines ++ budget_text c.budget)))))
+  pub budget_line : List ℕ
+  pub is_text : text ≡ opening ++ (groups_text c.groups ++ (argument_lines ++ (length_lines ++ (requirement_lines ++ (content_lines ++ budget_line)))))
   pub opens : IsOpening has_products opening
   pub counts_x : AreCounts c.groups.x
   pub counts_y : AreCounts c.groups.y
@@ -203,7 +217,7 @@ pub record AreConditionsLines (has_products : Bool) (ps : List Parameter) (text 
   pub few_requires : length c.requires ≤ 16
   pub contents : AreContentLines has_products ps content_lines c.contents
   pub few_contents : length c.contents ≤ 16
-  pub budget : (1 ≤ c.budget) × (c.budget ≤ 1000000000000)
+  pub budget : IsBudget (is_three opens) budget_line c.budget
 
 -- in at most 65,536 bytes; of version 2 or 3 only where it may be
 pub record IsConditionsText (may_be_two : Bool) (ps : List Parameter) (text : List ℕ) (c : Conditions) : Type 0 where

@@ -182,6 +182,24 @@ fn budget_line(at: Cursor<'_>) -> Result<(u64, Cursor<'_>), LaunchTextError>
     Ok((budget, after.end_line()?))
 }
 
+// The budget of a text whose last line may be left out, and then is the greatest.
+#[tactic(auto, unfolding(crate::specs::ConditionsReading::budget_at))]
+fn budget(at: Cursor<'_>, may_lack: bool) -> Result<(u64, Cursor<'_>), LaunchTextError>
+    ensures { Gives (read same) result (meaning.budget_at may_lack (cursor at.entry)) }
+{
+    if may_lack && at.rest.is_empty() {
+        return Ok((MOST_STEPS, at));
+    }
+    budget_line(at)
+}
+
+/// Whether a text is one of version 3, where it may be.
+fn is_third(at: Cursor<'_>, may_be_two: bool) -> bool
+    ensures { result ≡ meaning.is_third may_be_two (cursor at.entry) }
+{
+    may_be_two && at.strip("conditions 3").is_some()
+}
+
 /// The cursor past the mark of version 2 or 3, where the text may be of that version.
 fn strip_mark<'a>(at: Cursor<'a>, mark: &str, may_be_two: bool) -> Option<Cursor<'a>>
     ensures { MatchOption result ((may_be_two && sees mark.now (cursor at.entry)) ≡ false) (λ after. ((may_be_two && sees mark.now (cursor at.entry)) ≡ true) × (cursor after ≡ past (length mark.now) (cursor at.entry))) }
@@ -255,7 +273,7 @@ fn conditions<'a>(
     let (lengths, after) = length_lines(alloc, after, parameters, is_two)?;
     let (requirements, after) = requirement_lines(alloc, after, parameters, is_two)?;
     let (contents, after) = content_lines(alloc, after, parameters, is_two)?;
-    let (budget, after) = budget_line(after)?;
+    let (budget, after) = budget(after, is_third(at, may_be_two))?;
     end_text(after)?;
     Ok(Conditions {
         groups,

@@ -20,7 +20,7 @@ use syntax::tree::Parameter;
 
 const MOST_CONTENTS: usize = 16;
 
-/// Which of the buffer parameters has a name, counted from 0.
+/// The number of the buffer parameter with a name, counted from 0 among the buffers.
 fn buffer_number(parameters: &[Parameter], word: &[u8]) -> Option<u32>
     requires { length parameters.now ≤ most_names }
     ensures { result ≡ sums.buffer_number 0 (map parameter_of parameters.now) word.now }

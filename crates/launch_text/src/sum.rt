@@ -27,7 +27,7 @@ const ONE: Number = Number {
     size: 1,
 };
 
-/// Which of the value parameters has a name, counted from 0.
+/// The number of the value parameter with a name, counted from 0 among the values.
 fn value_number(parameters: &[Parameter], word: &[u8]) -> Option<u32>
     requires { length parameters.now ≤ most_names }
     ensures { result ≡ meaning.value_number 0 (map parameter_of parameters.now) word.now }

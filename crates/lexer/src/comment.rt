@@ -7,7 +7,7 @@ ghost use Rattle.lexer.specs.Seen.{piece_seen, leaves};
 
 use crate::{Piece, TextFault};
 
-/// How a comment ends.
+/// The way in which a comment ends.
 #[derive(Clone, Copy)]
 pub enum Comment {
     /// The comment ends before a line feed.
@@ -76,7 +76,7 @@ fn gap_of(comment: Comment, count: usize, bytes: &[u8]) -> Piece<'_>
     Piece::Gap(count)
 }
 
-/// How many bytes stand before the line feed.
+/// The number of bytes before the line feed.
 fn line_len(bytes: &[u8]) -> usize
     ensures line { result ≡ position_or_len is_line_feed bytes.now }
     ensures within { result ≤ length bytes.now }

@@ -57,7 +57,7 @@ pub struct Token<'a> {
     pub column: u32,
 }
 
-/// Why a text has no tokens.
+/// The faults for which a text has no tokens.
 #[derive(Clone, Copy, Debug)]
 pub enum TextFault {
     BadByte,
@@ -281,7 +281,7 @@ fn is_letter(b: u8) -> bool
     97 <= b && b <= 122 || (65 <= b && b <= 90 || b == b'_')
 }
 
-/// How many bytes a word has.
+/// The number of bytes of a word.
 fn word_len(bytes: &[u8]) -> usize
     ensures word { result ≡ prefix_len is_word_byte bytes.now }
     ensures within { result ≤ length bytes.now }

@@ -34,7 +34,8 @@ put (negsuc n) s ts = record { coefficient = negsuc n; symbol = s } ∷ ts
 -- a term and what `rest` merges, merged with more terms
 abbrev pub merge_one : Weighted ℕ → (rest : Terms → Terms) → Terms → Terms
 merge_one x rest [] = x ∷ rest []
-merge_one x rest (y ∷ b) = cond (nat_lt x.symbol y.symbol) (x ∷ rest (y ∷ b)) (cond (nat_lt y.symbol x.symbol) (y ∷ merge_one x rest b) (put (x.coefficient +ℤ y.coefficient) x.symbol (rest b)))
+merge_one x rest (y ∷ b) = cond (nat_lt x.symbol y.symbol) (x ∷ rest (y ∷ b))
+    (cond (nat_lt y.symbol x.symbol) (y ∷ merge_one x rest b) (put (x.coefficient +ℤ y.coefficient) x.symbol (rest b)))
 
 abbrev pub merge : Terms → Terms → Terms
 merge [] b = b

@@ -97,7 +97,8 @@ no_form = record { terms = []; constant = pos 0 }
 
 -- the product of two forms, where all products of their symbols are and each number of a sum on the way is an i64
 abbrev pub product : Form ℕ → Form ℕ → Option (Form ℕ)
-product f g = and_then (plus_multiple no_form g.constant f) (λ a. and_then (plus_multiple a f.constant (varying g)) (λ b. add_rows b f.terms g.terms))
+product f g = and_then (plus_multiple no_form g.constant f)
+    (λ a. and_then (plus_multiple a f.constant (varying g)) (λ b. add_rows b f.terms g.terms))
 
 -- what denies that a form is at least 0
 abbrev pub denial : Form ℕ → Form ℕ
@@ -114,7 +115,8 @@ replaced_product by (n ∷ ns) = replaced_factors by (by n) ns
 
 abbrev pub replaced_from : (ℕ → Form ℕ) → Form ℕ → Terms → Option (Form ℕ)
 replaced_from by f [] = Some f
-replaced_from by f (t ∷ ts) = and_then (replaced_product by (factors t.symbol)) (λ g. and_then (plus_multiple f t.coefficient g) (λ h. replaced_from by h ts))
+replaced_from by f (t ∷ ts) = and_then (replaced_product by (factors t.symbol))
+    (λ g. and_then (plus_multiple f t.coefficient g) (λ h. replaced_from by h ts))
 
 abbrev pub replaced : (ℕ → Form ℕ) → Form ℕ → Option (Form ℕ)
 replaced by f = replaced_from by (record { terms = []; constant = f.constant }) f.terms

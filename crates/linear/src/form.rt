@@ -1,4 +1,5 @@
-// Forms, and their operations.
+//! Linear forms over numbered symbols, with their sums, differences, multiples and products.
+
 ghost use Rattle.std.specs.Prelude.{◌≡◌, ℕ, ℤ, pos, negsuc, true, false, ◌+ℤ◌, ◌-ℤ◌, ◌*ℤ◌, ◌<ℤ◌, ◌&&◌, [], ◌∷◌, None, Some, IfOk, OnOk, IsErrOf, IfSome, MatchOption, length, IsTrue, ◌↔◌};
 ghost use Rattle.linear.specs.Linear.{value_of, IsMet};
 ghost use Rattle.linear.specs.Exact.{sum, multiple, form_without, coefficient_of, substituted, with_value, quotient, all_divide, fits, fits_i64, is_rising, over, form_over};
@@ -83,7 +84,8 @@ impl Form {
 
     /// The form that is one symbol, once.
     pub fn symbol(alloc: Global, symbol: Symbol) -> Result<Form, AllocError>
-        ensures { IfOk result (λ f. form f ≡ record { terms = record { coefficient = pos 1; symbol = symbol.number } ∷ []; constant = pos 0 }) }
+        ensures { IfOk result
+            (λ f. form f ≡ record { terms = record { coefficient = pos 1; symbol = symbol.number } ∷ []; constant = pos 0 }) }
     {
         let mut terms = TermList::new(alloc);
         terms.push(Term {
@@ -133,7 +135,8 @@ impl Form {
         ensures exact { IfOk result (λ f. form f ≡ sum (form self.now) (multiple (negsuc 0) (form other.now))) }
         ensures value { IfOk result (λ f. (v : ℕ → ℤ) → value_of v (form f) ≡ value_of v (form self.now) -ℤ value_of v (form other.now)) }
         ensures fits { OnOk result (fits (sum (form self.now) (multiple (negsuc 0) (form other.now))) ≡ true) }
-        ensures too_large { IsErrOf result LinearError.TooLarge → fits (sum (form self.now) (multiple (negsuc 0) (form other.now))) ≡ false }
+        ensures too_large { IsErrOf result LinearError.TooLarge
+            → fits (sum (form self.now) (multiple (negsuc 0) (form other.now))) ≡ false }
     {
         self.plus_multiple(alloc, -1, other)
     }
@@ -157,9 +160,11 @@ impl Form {
         other: &Form,
     ) -> Result<Form, LinearError>
         ensures exact { IfOk result (λ f. form f ≡ substituted symbol.number (form self.now) (form other.now)) }
-        ensures value { IfOk result (λ f. (v : ℕ → ℤ) → value_of v (form f) ≡ value_of (with_value v symbol.number (value_of v (form other.now))) (form self.now)) }
+        ensures value { IfOk result (λ f. (v : ℕ → ℤ) → value_of v (form f)
+            ≡ value_of (with_value v symbol.number (value_of v (form other.now))) (form self.now)) }
         ensures fits { OnOk result (fits (substituted symbol.number (form self.now) (form other.now)) ≡ true) }
-        ensures too_large { IsErrOf result LinearError.TooLarge → fits (substituted symbol.number (form self.now) (form other.now)) ≡ false }
+        ensures too_large { IsErrOf result LinearError.TooLarge
+            → fits (substituted symbol.number (form self.now) (form other.now)) ≡ false }
     {
         let rest = self.without(alloc, symbol)?;
         rest.plus_multiple(alloc, self.coefficient(symbol), other)
@@ -216,7 +221,8 @@ impl Form {
         k: i64,
         other: &Form,
     ) -> Result<Option<Form>, AllocError>
-        ensures { IfOk result (λ r. MatchOption r (plus_multiple (form self.now) k (form other.now) ≡ None) (λ f. plus_multiple (form self.now) k (form other.now) ≡ Some (form f))) }
+        ensures { IfOk result (λ r. MatchOption r (plus_multiple (form self.now) k (form other.now) ≡ None)
+            (λ f. plus_multiple (form self.now) k (form other.now) ≡ Some (form f))) }
     {
         match self.plus_multiple(alloc, k, other) {
             Ok(form) => Ok(Some(form)),
@@ -235,8 +241,10 @@ impl Form {
 
     /// The product of two forms, where all products of their symbols are, and each number of a sum on the way is an `i64`.
     pub fn product(&self, alloc: Global, other: &Form) -> Result<Option<Form>, AllocError>
-        ensures exact { IfOk result (λ r. MatchOption r (product (form self.now) (form other.now) ≡ None) (λ f. product (form self.now) (form other.now) ≡ Some (form f))) }
-        ensures value { IfOk result (λ r. IfSome r (λ f. (v : ℕ → ℤ) → IsMultiplicative v → value_of v (form f) ≡ value_of v (form self.now) *ℤ value_of v (form other.now))) }
+        ensures exact { IfOk result (λ r. MatchOption r
+            (product (form self.now) (form other.now) ≡ None) (λ f. product (form self.now) (form other.now) ≡ Some (form f))) }
+        ensures value { IfOk result (λ r. IfSome r (λ f. (v : ℕ → ℤ) → IsMultiplicative v
+            → value_of v (form f) ≡ value_of v (form self.now) *ℤ value_of v (form other.now))) }
     {
         let none = Form::constant(alloc, 0);
         let Some(constants) = none.settled(alloc, other.constant, self)? else {
@@ -252,7 +260,8 @@ impl Form {
     /// The form with each coefficient divided and the constant rounded down, where each coefficient divides.
     pub fn divided(&self, alloc: Global, divisor: i64) -> Result<Option<Form>, AllocError>
         requires { pos 0 <ℤ divisor }
-        ensures exact { IfOk result (λ r. MatchOption r (all_divide divisor (form self.now).terms ≡ false) (λ f. (all_divide divisor (form self.now).terms ≡ true) × (form f ≡ quotient divisor (form self.now)))) }
+        ensures exact { IfOk result (λ r. MatchOption r (all_divide divisor (form self.now).terms ≡ false)
+            (λ f. (all_divide divisor (form self.now).terms ≡ true) × (form f ≡ quotient divisor (form self.now)))) }
         ensures met { IfOk result (λ r. IfSome r (λ f. (v : ℕ → ℤ) → IsMet v (form self.now) → IsMet v (form f))) }
     {
         let constant = self.constant.div_euclid(divisor);

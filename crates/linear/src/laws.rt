@@ -24,12 +24,14 @@ pub fn valuations_extend()
 
 /// With forms in the place of symbols, a form is worth what it is where each symbol is worth its form.
 pub fn replacements_are_replacements()
-    ensures { (v : ℕ → ℤ) → IsMultiplicative v → (by : ℕ → Form ℕ) (f h : Form ℕ) → replaced by f ≡ Some h → value_of v h ≡ value_of (with_products (λ n. value_of v (by n))) f }
+    ensures { (v : ℕ → ℤ) → IsMultiplicative v → (by : ℕ → Form ℕ) (f h : Form ℕ) → replaced by f ≡ Some h
+        → value_of v h ≡ value_of (with_products (λ n. value_of v (by n))) f }
 {}
 
 /// The symbols of a product rise, where those of its factors do.
 pub fn products_rise()
-    ensures { (f g h : Form ℕ) → product f g ≡ Some h → is_rising 0 f.terms ≡ true → is_rising 0 g.terms ≡ true → is_rising 0 h.terms ≡ true }
+    ensures { (f g h : Form ℕ) → product f g ≡ Some h → is_rising 0 f.terms ≡ true → is_rising 0 g.terms ≡ true
+        → is_rising 0 h.terms ≡ true }
 {}
 
 /// With other numbers for symbols, products being the products of these, values keep products as well.
@@ -39,5 +41,8 @@ pub fn relabellings_keep_products()
 
 /// Other numbers that rise where these do keep the order of products.
 pub fn relabellings_keep_order()
-    ensures { (is_in : ℕ → Bool) (by : ℕ → ℕ) → IsRelabelling by → ((m n : ℕ) → is_in m ≡ true → is_in n ≡ true → m < n → by m < by n) → (f g : List ℕ) → are_small f ≡ true → are_small g ≡ true → All (λ n. is_in n ≡ true) f → All (λ n. is_in n ≡ true) g → packed f < packed g → packed (map by f) < packed (map by g) }
+    ensures { (is_in : ℕ → Bool) (by : ℕ → ℕ)
+        → IsRelabelling by → ((m n : ℕ) → is_in m ≡ true → is_in n ≡ true → m < n → by m < by n)
+        → (f g : List ℕ) → are_small f ≡ true → are_small g ≡ true → All (λ n. is_in n ≡ true) f → All (λ n. is_in n ≡ true) g
+        → packed f < packed g → packed (map by f) < packed (map by g) }
 {}

@@ -1,4 +1,5 @@
-// Lists of terms: combined, divided, with a term left out.
+//! Operations on lists of terms: sums of multiples, divisions, and lists without one symbol.
+
 ghost use Rattle.std.specs.Prelude.{◌≡◌, pos, true, false, ◌<ℤ◌, Err, IfOk, IsErrOf, MatchOption, length};
 ghost use Rattle.linear.specs.Exact.{merge, multiples, without, over, coefficient_of, all_divide, quotients, fits_terms};
 ghost use Rattle.linear.specs.Terms.{terms, numbers, are_rising, are_i64};
@@ -86,7 +87,9 @@ pub fn coefficient_at(a: &[Term], symbol: Symbol) -> i64
 /// Each term divided, where all divide.
 pub fn divide_terms(alloc: Global, a: &[Term], divisor: i64) -> Result<Option<TermList>, AllocError>
     requires { pos 0 <ℤ divisor }
-    ensures { IfOk result (λ r. MatchOption r (all_divide divisor (terms a.now) ≡ false) (λ out. (all_divide divisor (terms a.now) ≡ true) × (terms out.terms.items ≡ quotients divisor (terms a.now)) × (fits_terms (terms out.terms.items) ≡ true))) }
+    ensures { IfOk result
+        (λ r. MatchOption r (all_divide divisor (terms a.now) ≡ false) (λ out. (all_divide divisor (terms a.now) ≡ true)
+        × (terms out.terms.items ≡ quotients divisor (terms a.now)) × (fits_terms (terms out.terms.items) ≡ true))) }
 {
     let mut out = TermList::new(alloc);
     for t in a {

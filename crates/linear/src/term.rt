@@ -1,4 +1,5 @@
-// Terms, one at a time: the only functions that compute with coefficients.
+//! Single terms. Only these functions compute with coefficients, and they say where a number leaves `i64`.
+
 ghost use Rattle.std.specs.Prelude.{◌≡◌, ℕ, List, pos, true, false, ◌+ℤ◌, ◌*ℤ◌, ◌<ℤ◌, Err, OnOk, IsErrOf, MatchOption, ◌++◌, ◌∷◌};
 ghost use Rattle.std.specs.Int.{int_div_euclid};
 ghost use Rattle.linear.specs.Exact.{Terms, fits_i64, fits_terms, put, divides};
@@ -48,7 +49,8 @@ pub fn combine(x: i64, k: i64, y: i64) -> Option<i64>
 
 /// A term and a multiple of one of the same symbol as one, where its coefficient is an `i64`.
 fn add_multiple(x: Term, k: i64, y: Term) -> Option<Term>
-    ensures { MatchOption result (fits_i64 (x.coefficient +ℤ k *ℤ y.coefficient) ≡ false) (λ t. term t ≡ record { coefficient = x.coefficient +ℤ k *ℤ y.coefficient; symbol = x.symbol.number }) }
+    ensures { MatchOption result (fits_i64 (x.coefficient +ℤ k *ℤ y.coefficient) ≡ false)
+        (λ t. term t ≡ record { coefficient = x.coefficient +ℤ k *ℤ y.coefficient; symbol = x.symbol.number }) }
 {
     let Some(coefficient) = combine(x.coefficient, k, y.coefficient) else {
         return None;
@@ -62,7 +64,8 @@ fn add_multiple(x: Term, k: i64, y: Term) -> Option<Term>
 /// A term whose coefficient divides, divided.
 pub fn divide(t: Term, divisor: i64) -> Option<Term>
     requires { pos 0 <ℤ divisor }
-    ensures { MatchOption result (divides divisor t.coefficient ≡ false) (λ u. (divides divisor t.coefficient ≡ true) × (term u ≡ record { coefficient = int_div_euclid t.coefficient divisor; symbol = t.symbol.number })) }
+    ensures { MatchOption result (divides divisor t.coefficient ≡ false) (λ u. (divides divisor t.coefficient ≡ true)
+        × (term u ≡ record { coefficient = int_div_euclid t.coefficient divisor; symbol = t.symbol.number })) }
 {
     if t.coefficient.rem_euclid(divisor) != 0 {
         return None;
@@ -84,7 +87,8 @@ pub fn keep(out: &mut TermList, t: Term) -> Result<(), AllocError>
 
 /// Adds a term at the end, unless its coefficient is 0.
 fn keep_some(out: &mut TermList, t: Term) -> Result<(), AllocError>
-    ensures kept { OnOk result ((rest : Terms) → terms out.new.terms.items ++ rest ≡ terms out.old.terms.items ++ put t.coefficient t.symbol.number rest) }
+    ensures kept { OnOk result ((rest : Terms) → terms out.new.terms.items ++ rest
+        ≡ terms out.old.terms.items ++ put t.coefficient t.symbol.number rest) }
     ensures fits { OnOk result (fits_terms (terms out.old.terms.items) ≡ true → fits_terms (terms out.new.terms.items) ≡ true) }
 {
     if t.coefficient == 0 {
@@ -95,7 +99,8 @@ fn keep_some(out: &mut TermList, t: Term) -> Result<(), AllocError>
 
 /// Adds a term and a multiple of one of the same symbol at the end, as one.
 pub fn keep_sum(out: &mut TermList, x: Term, k: i64, y: Term) -> Result<(), LinearError>
-    ensures kept { OnOk result ((rest : Terms) → terms out.new.terms.items ++ rest ≡ terms out.old.terms.items ++ put (x.coefficient +ℤ k *ℤ y.coefficient) x.symbol.number rest) }
+    ensures kept { OnOk result ((rest : Terms) → terms out.new.terms.items ++ rest
+        ≡ terms out.old.terms.items ++ put (x.coefficient +ℤ k *ℤ y.coefficient) x.symbol.number rest) }
     ensures fits { OnOk result (fits_terms (terms out.old.terms.items) ≡ true → fits_terms (terms out.new.terms.items) ≡ true) }
     ensures too_large { IsErrOf result LinearError.TooLarge → fits_i64 (x.coefficient +ℤ k *ℤ y.coefficient) ≡ false }
 {
@@ -108,7 +113,8 @@ pub fn keep_sum(out: &mut TermList, x: Term, k: i64, y: Term) -> Result<(), Line
 
 /// Adds a multiple of a term at the end.
 pub fn keep_multiple(out: &mut TermList, k: i64, y: Term) -> Result<(), LinearError>
-    ensures kept { OnOk result ((rest : Terms) → terms out.new.terms.items ++ rest ≡ terms out.old.terms.items ++ put (k *ℤ y.coefficient) y.symbol.number rest) }
+    ensures kept { OnOk result ((rest : Terms) → terms out.new.terms.items ++ rest
+        ≡ terms out.old.terms.items ++ put (k *ℤ y.coefficient) y.symbol.number rest) }
     ensures fits { OnOk result (fits_terms (terms out.old.terms.items) ≡ true → fits_terms (terms out.new.terms.items) ≡ true) }
     ensures too_large { IsErrOf result LinearError.TooLarge → fits_i64 (k *ℤ y.coefficient) ≡ false }
 {

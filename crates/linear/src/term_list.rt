@@ -12,7 +12,7 @@ pub struct TermList {
 }
 
 impl TermList {
-    /// No terms.
+    /// An empty list of terms.
     pub fn new(alloc: Global) -> TermList
         ensures { result.terms.items ≡ [] }
     {
@@ -44,7 +44,7 @@ impl TermList {
         self.terms.extend_from_slice(terms)
     }
 
-    /// The terms.
+    /// The terms as a slice, in their order.
     pub fn as_slice(&self) -> &[Term]
         ensures { result.now ≡ self.now.terms.items }
     {

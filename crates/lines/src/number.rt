@@ -6,7 +6,7 @@ ghost use Rattle.lines.specs.Bytes.{is_well_spelt};
 ghost use Rattle.lines.specs.Lines.{is_decimal, value_of, natural_of, negative_of, integer_of};
 ghost use Rattle.lines.specs.Numbers.{seen};
 
-/// Why a word is no number.
+/// The faults for which a word is no number.
 #[derive(Clone, Copy, Debug, PartialEq, Eq)]
 pub enum NumberFault {
     NoDecimal,

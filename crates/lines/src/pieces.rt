@@ -84,7 +84,7 @@ impl<'a> Pieces<'a> {
     }
 }
 
-/// How many bytes stand before the first separator, or all where there is none.
+/// The number of bytes before the first separator; of all bytes where there is none.
 fn position(text: &[u8], separator: u8) -> usize
     ensures place { result ≡ position_or_len (λ b. nat_eq b separator) text.now }
     ensures within { result ≤ length text.now }

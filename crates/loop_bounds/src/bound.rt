@@ -31,7 +31,7 @@ impl Step {
     }
 }
 
-/// What a form is at least where its loop opens, at least 1.
+/// A lower bound, of at least 1, of a form where its loop opens.
 #[derive(Clone, Copy, Drop)]
 pub struct Least {
     number: i64,
@@ -39,7 +39,7 @@ pub struct Least {
 }
 
 impl Least {
-    /// That number, where it is 1 at least.
+    /// A lower bound of this number; none where that is below 1.
     pub fn new(number: i64) -> Option<Least>
         ensures { MatchOption result (number ≤ℤ pos 0) (λ l. l.number ≡ number) }
     {
@@ -58,7 +58,7 @@ impl Least {
     }
 }
 
-/// How a loop ends.
+/// A ranking of a loop, which says why it ends.
 #[derive(Drop)]
 pub enum Bound {
     /// Each turn makes the form less by `step` at least, from at most `most` down to above 0.

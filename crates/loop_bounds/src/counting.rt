@@ -140,7 +140,7 @@ fn body_cost(bounds: &[LoopBound], body: &[Statement]) -> Result<u64, BoundError
     Ok(total)
 }
 
-/// How many steps a work-item takes at most, where each loop ends as `bounds` says of it.
+/// The most steps that a work-item takes where each loop ends as `bounds` says of it.
 pub fn cost(core: &Core, bounds: &[LoopBound]) -> Result<u64, BoundError>
     ensures { Counts result (specs.cost (turns.turns_of bounds.now) (statements_seen core.now.body.items)) }
 {

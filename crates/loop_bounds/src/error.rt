@@ -2,7 +2,7 @@
 
 use thiserror::Error;
 
-/// Why the steps were not counted.
+/// The reasons for which the steps are not counted.
 #[derive(Debug, Drop, Error)]
 pub enum BoundError {
     #[error("56")]

@@ -1,4 +1,5 @@
-// Laws of the definitions, each the contract of a function that does nothing.
+//! Laws of the definitions of bounds. Each is the contract of a function with an empty body.
+
 ghost use Rattle.std.specs.Prelude.{◌≡◌, ◌≤◌, ◌∷◌, ℤ, List, length, true};
 ghost use Rattle.linear.specs.Exact.{fits_i64};
 ghost use Rattle.loop_bounds.specs.declared.bound.Bound.{Bound};

@@ -20,21 +20,21 @@ fn divisor(least: Least) -> u64
     above(least.number())
 }
 
-/// How many binary digits a number has.
+/// The number of binary digits of a number, 0 of 0.
 fn digits(number: u64) -> u64
     ensures { result ≡ specs.digits number }
 {
     u64::from(64 - number.leading_zeros())
 }
 
-/// How many times the least number goes into the most.
+/// The whole quotient of the most and the least.
 fn times_least(least: Least, most: i64) -> u64
     ensures { result ≡ specs.above most / specs.above least.number }
 {
     above(most) / divisor(least)
 }
 
-/// How often the test of a loop is true at most.
+/// The most times that the test of a loop is true.
 pub fn turns(bound: &Bound) -> u64
     ensures { result ≡ specs.turns bound.now }
 {

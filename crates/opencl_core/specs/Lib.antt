@@ -1,6 +1,8 @@
 pub mod Assigning
 pub mod BuiltIns
 pub mod Calling
+pub mod Choosing
+pub mod ChoosingView
 pub mod Components
 pub mod ComponentsView
 pub mod Constants

@@ -7,7 +7,7 @@ use Rattle.semantics.specs.Core.{Site}
 use Rattle.kernel_names.specs.NameMap.{Turning, Other}
 use Rattle.opencl_tree.specs.Tree.{Expression, Call, Expressions, First, FirstAbsent, FirstDeclares, FirstEvaluates, Statement, Declare, Typedef, Evaluate, If, While, Do, For, Switch, Case, Default, Break, Continue, Return, Block, Empty, Statements, none, one}
 use Rattle.opencl_effects.specs.Effects.{has_effect, is_helper}
-use Rattle.opencl_values.specs.Faults.{Checked, WrongType, JumpOutside, LeftOut, Repetition, Choice, refused, then, Effect, when}
+use Rattle.opencl_values.specs.Faults.{Checked, WrongType, JumpOutside, LeftOut, Repetition, refused, then, Effect, when}
 use Rattle.opencl_values.specs.Wholes.{places}
 use Rattle.opencl_values.specs.Vectors.{converted_to}
 use Rattle.opencl_values.specs.Values.{value_of}
@@ -18,6 +18,7 @@ use Rattle.opencl_core.specs.Flags.{called}
 use Rattle.opencl_core.specs.Components.{set_picked}
 use Rattle.opencl_core.specs.Parts.{part, no_part, put_if, are_assignments}
 use Rattle.opencl_core.specs.Drawing.{test_of, counted_test, begun, draw_whole, evaluate}
+use Rattle.opencl_core.specs.Choosing.{write_choice}
 use Rattle.opencl_core.specs.Declaring.{write_declaration, write_typedef}
 
 -- where a statement stands: outside all loops, or in loops, the innermost of which has the number, and may test behind its body
@@ -173,9 +174,9 @@ unfoldable mutual
   write_statement around (Do n at body test) r = do_loop at (λ loop. write_all (InLoop loop true) body) test r
   write_statement around (For n at first test update body) r =
       for_whole at first test (λ loop. write_all (InLoop loop false) body) update r
-  write_statement around (Switch n at test body) r = refused (LeftOut Choice) at
-  write_statement around (Case n at value) r = refused (LeftOut Choice) at
-  write_statement around (Default n at) r = refused (LeftOut Choice) at
+  write_statement around (Switch n at test labels) r = write_choice at test labels r
+  write_statement around (Case n at value) r = refused JumpOutside at
+  write_statement around (Default n at) r = refused JumpOutside at
   write_statement around (Break n at) r = left at around r
   write_statement around (Continue n at) r = goes_on at around r
   write_statement around (Return n at value) r = returned at value r

@@ -8,6 +8,7 @@
 pub mod assigning;
 mod built_ins;
 pub mod calling;
+mod choosing;
 pub mod components;
 pub mod constants;
 pub mod declaring;

@@ -8,6 +8,7 @@ ghost use Rattle.opencl_core.specs.Parts as parts;
 ghost use Rattle.opencl_core.specs.Writing as rules;
 ghost use Rattle.opencl_core.specs.View as seen;
 
+use crate::choosing::write_choice;
 use crate::components::set_picked;
 use crate::declaring::{write_declaration, write_typedef};
 use crate::drawing::{begin, counted_test, draw_whole, evaluate, test_of};
@@ -643,9 +644,13 @@ pub fn write_statement<'a>(
             };
             for_whole(alloc, head, body, room)
         }
-        Stmt::Switch { site, .. } | Stmt::Case { site, .. } | Stmt::Default { site, .. } => {
-            refused(Fault::LeftOut(Construct::Choice), *site)
-        }
+        Stmt::Switch {
+            site,
+            test,
+            body,
+            ..
+        } => write_choice(alloc, *site, test, body, room),
+        Stmt::Case { site, .. } | Stmt::Default { site, .. } => refused(Fault::JumpOutside, *site),
         Stmt::Break { site, .. } => left(*site, around, room),
         Stmt::Continue { site, .. } => goes_on(*site, around, room),
         Stmt::Return { site, value, .. } => returned(alloc, *site, value, room),

@@ -16,7 +16,7 @@ use syntax::tree::InfixSign;
 
 const MOST_MARKS: usize = 1_024;
 
-/// Which sort of operator has a place.
+/// The sort of an operator that has a place.
 #[derive(Clone, Copy)]
 pub enum Sort {
     OfCall,

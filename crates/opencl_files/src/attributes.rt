@@ -150,7 +150,7 @@ pub fn attribute<'a>(
     attributes(256, 2, so, rest)
 }
 
-/// Attributes behind parameters.
+/// Reads the attributes behind the parameters of a function.
 #[cycle(trailing)]
 #[tactic(auto, using(crate::proofs::HeaderSteps::header_steps))]
 pub fn trailing<'a>(

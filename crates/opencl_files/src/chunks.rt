@@ -16,7 +16,7 @@ use opencl_parser::stops::ParseFault;
 use opencl_tokens::{Lexeme, LexemeKind, Sign};
 use std::alloc::{AllocError, Global};
 
-/// What opens and closes.
+/// A bracket that opens or closes.
 #[derive(Clone, Copy)]
 pub enum Bracket {
     Parenthesis,
@@ -24,7 +24,7 @@ pub enum Bracket {
     Brace,
 }
 
-/// What a lexeme is to the brackets.
+/// The effect of a lexeme on the brackets that are open.
 #[derive(Clone, Copy)]
 pub enum Turn {
     Opens(Bracket),
@@ -73,7 +73,7 @@ fn is_brace(bracket: Bracket) -> bool
     matches!(bracket, Bracket::Brace)
 }
 
-/// What a lexeme is to the brackets.
+/// The effect of a lexeme on the brackets that are open.
 pub fn turn_of(kind: LexemeKind) -> Turn
     ensures { turn_seen result ≡ cuts.turn_of (lexeme_kind kind.entry) }
 {

@@ -113,7 +113,7 @@ fn parameter_behind<'a>(
     parameter_at(alloc, types, front, tokens)
 }
 
-/// Reads a parameter.
+/// Reads one parameter of a function: its type and its name.
 #[tactic(auto, using(crate::proofs::HeaderSteps::header_steps))]
 pub fn parameter<'a>(
     alloc: Global,

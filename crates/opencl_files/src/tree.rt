@@ -15,7 +15,8 @@ pub struct Parameter {
     pub dimensions: Vec<Option<Expr>>,
 }
 
-/// What stands in front of a function's body. The sizes are those of its `reqd_work_group_size`, in work-items (OpenCL 1.2, 6.7.2).
+/// The head of a function, which stands in front of its body. The sizes are those of its `reqd_work_group_size`, in
+/// work-items (OpenCL 1.2, 6.7.2).
 #[derive(Drop)]
 pub struct Header {
     pub sizes: Option<[u32; 3]>,

@@ -9,8 +9,8 @@ is_reserved [] = false
 is_reserved (a ∷ []) = false
 is_reserved (a ∷ b ∷ rest) = nat_eq a 95 && (nat_eq b 95 || (nat_le 65 b && nat_le b 90))
 
--- macros of one beginning: of types (OpenCL 1.2, 6.2.4.2), of versions (6.10), of floats and doubles (6.12.2), of fences and images (6.12.8,
--- 6.12.14)
+-- macros of one beginning: of types (OpenCL 1.2, 6.2.4.2), of versions (6.10), of floats and doubles (6.12.2), of fences and images
+-- (6.12.8, 6.12.14)
 abbrev pub is_of_family : (name : List ℕ) → Bool
 is_of_family name =
     bytes_eq (take 3 name) (codes "as_") || (bytes_eq (take 11 name) (codes "CL_VERSION_") || (bytes_eq (take 4 name) (codes "FLT_")

@@ -101,7 +101,7 @@ fn are_names(tokens: &[Token<'_>]) -> bool
     !name_due
 }
 
-/// How many tokens 127 parameters have, with the commas between them.
+/// The number of tokens of 127 parameters, with the commas between them.
 const LONGEST: usize = 253;
 
 fn are_parameters(tokens: &[Token<'_>]) -> bool
@@ -110,7 +110,7 @@ fn are_parameters(tokens: &[Token<'_>]) -> bool
     tokens.len() == 0 || (tokens.len() <= LONGEST && are_names(tokens))
 }
 
-/// How many tokens stand before the first `)`.
+/// The number of tokens before the first `)`.
 fn before_bracket(tokens: &[Token<'_>]) -> usize
     ensures is { result ≡ meaning.before_bracket (tokens_seen tokens.now) }
     ensures within { result ≤ length tokens.now }
@@ -158,7 +158,7 @@ fn function_with<'a>(
     }
 }
 
-/// What stands behind the `(` of a function.
+/// Reads the macro of a function, behind its `(`.
 fn function<'a>(name: &'a str, tokens: &'a [Token<'a>]) -> Directive<'a>
     ensures { directive result ≡ meaning.function name.now (tokens_seen tokens.now) }
 {

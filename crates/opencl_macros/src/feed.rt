@@ -86,7 +86,7 @@ pub fn opens(feed: &VecDeque<Fed<'_>>) -> bool
 /// The most brackets that are open in a use.
 const MOST_DEEP: u32 = 255;
 
-/// How many brackets are open behind a token, the use's own one among them.
+/// The number of brackets that are open behind a token, the use's own one among them.
 fn depth_behind(deep: u32, kind: TokenKind<'_>) -> Option<u32>
     ensures { result ≡ meaning.depth_behind deep (token_kind kind.entry) }
 {
@@ -190,7 +190,7 @@ pub fn fits(parameters: &[Token<'_>], arguments: &[Vec<Fed<'_>>]) -> bool
     }
 }
 
-/// Where a name stands in a list of parameters, commas counted too.
+/// The place of a name in a list of parameters, commas counted too.
 fn place_of(name: &str, parameters: &[Token<'_>]) -> Option<usize>
     ensures { result ≡ meaning.place_of name.now 0 (tokens_seen parameters.now) }
 {

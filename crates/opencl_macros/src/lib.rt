@@ -24,7 +24,7 @@ pub use reading::preprocessed;
 use std::alloc::{AllocError, AllocFailed};
 use thiserror::Error;
 
-/// Where the first fault of the directives and macros of a text is, or want of memory.
+/// The place of the first fault in the directives and macros of a text, or want of memory.
 #[derive(Debug, Drop, Error)]
 pub enum MacroError {
     #[error("13 {}:{}", .0.line, .0.column)]

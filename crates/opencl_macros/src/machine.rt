@@ -269,7 +269,8 @@ fn next_item<'a>(m: &mut Machine<'a>) -> Option<Fed<'a>>
     m.feed.pop_front()
 }
 
-/// Step after step.
+/// Takes one step after another until nothing is left to read, or to the first fault. Too many steps are a fault at the
+/// site.
 #[cycle(expansion)]
 fn run<'a>(
     alloc: Global,

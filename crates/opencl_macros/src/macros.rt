@@ -11,7 +11,7 @@ use crate::marks::same_sign;
 use crate::{Token, TokenKind};
 use opencl_tokens::Sign;
 
-/// What a name stands for. A function has the tokens between its brackets: names with a comma between each two.
+/// The macro of a name. A function has the tokens between its brackets: names with a comma between each two.
 #[derive(Clone, Copy)]
 pub struct Macro<'a> {
     pub parameters: Option<&'a [Token<'a>]>,
@@ -25,7 +25,7 @@ pub struct Entry<'a> {
     pub stands_for: Option<Macro<'a>>,
 }
 
-/// What a name stands for: the last entry counts.
+/// The macro of a name: the last entry counts.
 pub fn look<'a>(name: &str, entries: &[Entry<'a>]) -> Option<Macro<'a>>
     ensures { maybe_macro result ≡ meaning.look name.now (table entries.now) None }
 {

@@ -202,7 +202,7 @@ pub fn choice(c: Option<u64>, a: Option<u64>, b: Option<u64>) -> Option<u64>
     }
 }
 
-/// How tight each binds.
+/// The rank of an operator: the greater it is, the tighter the operator binds.
 pub fn tightness(op: Binary) -> u32
     ensures is { result ≡ meaning.tightness (binary_seen op) }
     ensures few { result ≤ 11 }

@@ -51,13 +51,13 @@ struct State<'a> {
     left: usize,
 }
 
-/// How many tokens may be put in for macros.
+/// The most tokens that may be put in for macros.
 const LIMIT: usize = 262_144;
 
-/// How many uses of macros may stand in arguments of one another.
+/// The most uses of macros that may stand in arguments of one another.
 const DEPTH: u32 = 64;
 
-/// How many entries a table has at most.
+/// The most entries of a table.
 const MOST_ENTRIES: usize = 4096;
 
 fn is_taken(now: Group) -> bool
@@ -442,7 +442,7 @@ fn is_directive(token: Token<'_>) -> bool
     token.begins_line && is_mark(Sign::Hash, token.kind)
 }
 
-/// How many tokens stand behind a `#` in its line.
+/// The number of tokens behind a `#` in its line.
 fn line_length(tokens: &[Token<'_>]) -> usize
     ensures is { result ≡ meaning.line_length (tokens_seen tokens.now) }
     ensures within { result ≤ length tokens.now }
@@ -455,7 +455,7 @@ fn line_length(tokens: &[Token<'_>]) -> usize
     tokens.len()
 }
 
-/// How many tokens stand before the next directive.
+/// The number of tokens before the next directive.
 fn text_length(tokens: &[Token<'_>]) -> usize
     ensures is { result ≡ meaning.text_length (tokens_seen tokens.now) }
     ensures within { result ≤ length tokens.now }
@@ -468,7 +468,7 @@ fn text_length(tokens: &[Token<'_>]) -> usize
     tokens.len()
 }
 
-/// How many tokens behind the first one belong to it: those of a directive, or those before the next one.
+/// The number of tokens behind the first one that belong to it: those of a directive, or those before the next one.
 fn length_behind(first: Token<'_>, tokens: &[Token<'_>]) -> usize
     ensures is { result ≡ meaning.length_behind (token_of first.entry) (tokens_seen tokens.now) }
     ensures within { result ≤ length tokens.now }
@@ -522,7 +522,7 @@ fn take_piece<'a>(
     Ok(count)
 }
 
-/// Piece after piece.
+/// Reads the pieces of a text, one after another, to its end or its first fault.
 fn read<'a>(alloc: Global, s: &mut State<'a>, tokens: &'a [Token<'a>]) -> Result<(), MacroError>
     ensures { Gives (λ u. state s.new) result (meaning.read 0 (state s.old) (tokens_seen tokens.now)) }
 {

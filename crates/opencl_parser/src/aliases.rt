@@ -28,7 +28,7 @@ fn is_single(dimensions: &[Option<Expr>]) -> bool
     matches!(dimensions, [])
 }
 
-/// Where a declaration begins, and its number.
+/// The place of a declaration: where it begins, and its number.
 #[derive(Clone, Copy)]
 pub struct Place {
     pub number: u32,

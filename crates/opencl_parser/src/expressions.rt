@@ -27,7 +27,7 @@ use std::alloc::Global;
 use syntax::tree::AssignSign;
 use words::Kind;
 
-/// How many arguments a call has at most.
+/// The most arguments of a call.
 const MOST_ARGUMENTS: u32 = 256;
 
 /// Operands joined so far: their tree, the rank below that of the signs between them, and how many more may come at most.

@@ -2,8 +2,8 @@
 //! `opencl_tree`.
 //!
 //! Lexemes to trees. `specs/` has the readers, small programs of one meaning: what stands at the front of lexemes, expressions, statements.
-//! Operators, brackets and blocks stand at most 64 deep within one another. `expression_of` and `block_of` read a whole; their answer is the
-//! tree that the readers have, or the fault that they name at its place. The definition is the reader: no relation stands beside it.
+//! Operators, brackets and blocks stand at most 64 deep within one another. `expression_of` and `block_of` read a whole; their answer is
+//! the tree that the readers have, or the fault that they name at its place. The definition is the reader: no relation stands beside it.
 #![tactic(auto)]
 
 pub mod aliases;

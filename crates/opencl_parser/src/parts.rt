@@ -22,7 +22,7 @@ use opencl_tokens::{Lexeme, LexemeKind, Sign, Word};
 use opencl_tree::tree::{Expr, First, Stmt};
 use std::alloc::Global;
 
-/// What a `for` has in parentheses.
+/// The parts of a `for` in its parentheses.
 #[derive(Drop)]
 pub struct Head {
     pub first: First,

@@ -12,14 +12,14 @@ use opencl_tokens::{LexemeKind, Sign};
 use opencl_tree::tree::{PrefixSign, StepSign};
 use syntax::tree::{AssignSign, InfixSign};
 
-/// What joins a left operand and a right one: a sign, or a comma.
+/// A token that joins a left operand and a right one: a sign, or a comma.
 #[derive(Clone, Copy)]
 pub enum Join {
     Operates(InfixSign),
     Sequence,
 }
 
-/// How it goes on behind a left operand.
+/// A continuation of an expression behind a left operand.
 #[derive(Clone, Copy)]
 pub enum Joint {
     Joins(Join),
@@ -27,7 +27,7 @@ pub enum Joint {
     Asks,
 }
 
-/// How an operand begins that begins with a sign.
+/// The beginning of an operand that begins with a sign.
 #[derive(Clone, Copy)]
 pub enum Opening {
     Prefixes(PrefixSign),
@@ -36,7 +36,7 @@ pub enum Opening {
     Wrong,
 }
 
-/// What stands behind an operand and belongs to it.
+/// A suffix, which stands behind an operand and belongs to it.
 #[derive(Clone, Copy)]
 pub enum Suffix {
     Indexes,
@@ -137,7 +137,7 @@ fn joint_of(found: Sign) -> Option<(u32, Joint)>
     Some((rank, Joint::Joins(Join::Operates(infix))))
 }
 
-/// How it goes on behind a left operand, by a sign of this rank.
+/// The continuation behind a left operand, by a sign of this rank; none where the lexeme is no such sign.
 pub fn joint_at(rank: u32, kind: LexemeKind) -> Option<Joint>
     ensures { maybe_joint result ≡ signs.joint_at rank (lexeme_kind kind.entry) }
 {
@@ -150,7 +150,7 @@ pub fn joint_at(rank: u32, kind: LexemeKind) -> Option<Joint>
     }
 }
 
-/// How an operand begins with a sign.
+/// The beginning of an operand by its first sign.
 pub fn opening_of(found: Sign) -> Opening
     ensures { opening_seen result ≡ signs.opening_of (sign found) }
 {
@@ -168,7 +168,7 @@ pub fn opening_of(found: Sign) -> Opening
     }
 }
 
-/// What belongs to the operand before it.
+/// The suffix that begins with a lexeme; none where it begins none.
 pub fn suffix_at(kind: LexemeKind) -> Option<Suffix>
     ensures { maybe_suffix result ≡ signs.suffix_at (lexeme_kind kind.entry) }
 {

@@ -6,7 +6,7 @@ use core_code::tree::Site;
 use std::alloc::{AllocError, AllocFailed};
 use thiserror::Error;
 
-/// What OpenCL C 1.2 has and is left out.
+/// A construct of OpenCL C 1.2 that is left out.
 #[derive(Debug, Clone, Copy)]
 pub enum Construct {
     Structure,

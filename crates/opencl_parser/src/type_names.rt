@@ -102,7 +102,7 @@ pub fn is_half(base: Named) -> bool
     matches!(base, Named::Numbers(Scalar::Half, _))
 }
 
-/// The base, owned.
+/// Copies the name of a base into a base of its own. The error is want of memory.
 pub fn owned(alloc: Global, base: Named) -> Result<Base, AllocError>
     ensures { IfOk result (λ b. base_seen b ≡ base_named base.entry) }
 {

@@ -377,7 +377,7 @@ pub fn qualified(qualifiers: Qualifiers, kind: LexemeKind) -> Option<Qualifiers>
     }
 }
 
-/// No qualifiers.
+/// The qualifiers of a type that has none.
 pub fn unqualified() -> Qualifiers
     ensures { qualifiers_seen result ≡ names.unqualified }
 {

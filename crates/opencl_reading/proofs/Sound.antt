@@ -36,7 +36,8 @@ use Rattle.opencl_reading.specs.FileTypes.{meant_in}
 use Rattle.opencl_reading.specs.HeadRules.{are_locals, as_count}
 use Rattle.opencl_reading.specs.Kinds.{are_same}
 use Rattle.opencl_reading.specs.Overloads.{first_overloading}
-use Rattle.opencl_reading.specs.Kernels.{Fault, OfText, OfFile, OfCore, Unsound, on, when, has_few, has_parameters, is_kept, tested, all_set, with_few, checked, of_size, agreed, counted, sized, with_sizes, same, with_head, of_file, of_lexemes, placed, of_expanded, with_given, constants, with_texts, with_defines, with_lines, of_tokens, of_lines, read}
+use Rattle.opencl_reading.specs.Jumps.{rewritten_text}
+use Rattle.opencl_reading.specs.Kernels.{Fault, OfText, OfFile, OfCore, Unsound, on, when, has_few, has_parameters, is_kept, tested, all_set, with_few, checked, of_size, agreed, counted, sized, with_sizes, same, with_head, of_text, of_file, of_lexemes, placed, of_expanded, with_given, constants, with_texts, with_defines, with_lines, of_tokens, of_lines, read}
 
 -- a part that answers was followed by what answers
 on-back : {A B F : Type 0} (into : F → Fault) (r : Result A (F × Site)) (next : A → Result B (Fault × Site)) (b : B) → on into r next ≡ Ok b → (a : A) × (next a ≡ Ok b)
@@ -78,8 +79,8 @@ head-kept ids outside head t v h =
 
 file-kept : (ids : Kind) (head : Head) (ts : List Lexeme) (o : Option Site) (v : Written) → of_file ids head ts o ≡ Ok v → is_kept v ≡ true
 file-kept ids head ts None v h =
-    let t = on-back OfFile (chosen_kernel head.kernel ts) (with_head ids (outside_of ts) head) v h in
-    head-kept ids (outside_of ts) head t.0 v t.1
+    let t = on-back OfFile (chosen_kernel head.kernel ts) (of_text ids head ts) v h in
+    head-kept ids (outside_of ts) head (rewritten_text t.0) v t.1
 file-kept ids head ts (Some at) v h = absurd cc
 
 read-kept : (d : Devices) (head : Head) (bytes : List ℕ) (v : Written) → read d head bytes ≡ Ok v → is_kept v ≡ true

@@ -31,6 +31,7 @@ use Rattle.opencl_reading.specs.Defines.{joined_behind, tokens_behind}
 use Rattle.opencl_reading.specs.FileNames.{outside_of}
 use Rattle.opencl_reading.specs.FileTypes.{meant_in}
 use Rattle.opencl_reading.specs.HeadRules.{are_same_sizes, are_locals, as_count}
+use Rattle.opencl_reading.specs.Jumps.{rewritten_text}
 use Rattle.opencl_reading.specs.Kinds.{are_same}
 use Rattle.opencl_reading.specs.Overloads.{first_overloading}
 
@@ -114,8 +115,11 @@ same fault = fault
 abbrev pub with_head : (ids : Kind) → (outside : List Binding) → Head → KernelText → Read
 with_head ids outside h t = on same (agreed t.header.site t.header.sizes h.sizes) (with_sizes ids outside t h)
 
+abbrev pub of_text : (ids : Kind) → Head → List Lexeme → KernelText → Read
+of_text ids h ts t = with_head ids (outside_of ts) h (rewritten_text t)
+
 abbrev pub of_file : (ids : Kind) → Head → List Lexeme → (overloading : Option Site) → Read
-of_file ids h ts None = on OfFile (chosen_kernel h.kernel ts) (with_head ids (outside_of ts) h)
+of_file ids h ts None = on OfFile (chosen_kernel h.kernel ts) (of_text ids h ts)
 of_file ids h ts (Some at) = Err (OfCore (cores.LeftOut cores.Outside), at)
 
 abbrev pub of_lexemes : (ids : Kind) → Head → List Lexeme → Read

@@ -3,6 +3,7 @@ pub mod Defines
 pub mod FileNames
 pub mod FileTypes
 pub mod HeadRules
+pub mod Jumps
 pub mod Kernels
 pub mod Kinds
 pub mod Overloads

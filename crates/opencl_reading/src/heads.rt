@@ -41,7 +41,7 @@ fn agreed_with(at: Site, own: [u32; 3], given: Option<[u32; 3]>) -> Result<[u32;
     }
 }
 
-/// How large work-groups are, by the kernel's attribute or by the head.
+/// The sizes of work-groups, by the kernel's attribute or by the head.
 pub fn agreed(
     at: Site,
     own: Option<[u32; 3]>,

@@ -26,6 +26,7 @@ pub mod defines;
 pub mod error;
 mod file_types;
 mod heads;
+mod jumps;
 mod kinds;
 mod names;
 mod overloads;
@@ -34,6 +35,7 @@ use crate::defines::{joined_lines, tokens_behind};
 use crate::error::OpenClError;
 use crate::file_types::push_meant;
 use crate::heads::{agreed, are_locals, counts};
+use crate::jumps::rewritten_text;
 use crate::kinds::tells_parameters;
 use crate::names::{names_in, unread};
 use crate::overloads::first_overloading;
@@ -224,6 +226,21 @@ fn overloaded(at: Site) -> OpenClError
     })
 }
 
+/// The kernel of a text that was chosen from a file's lexemes.
+fn of_text(
+    alloc: Global,
+    ids: Kind,
+    head: &Head<'_>,
+    tokens: &[Lexeme],
+    text: KernelText,
+) -> Result<Typed, OpenClError>
+    ensures { Gives result (kernels.of_text (kind_seen ids) (head_seen head.now) (lexemes_seen tokens.now) (text_seen text)) }
+{
+    let text = rewritten_text(alloc, text)?;
+    let names = names_in(alloc, tokens)?;
+    with_head(alloc, ids, &FileText { names, text }, head)
+}
+
 /// The kernel of a file's lexemes: the one that the head names, or the only one.
 fn of_lexemes(
     alloc: Global,
@@ -237,10 +254,7 @@ fn of_lexemes(
         return Err(overloaded(at));
     }
     match chosen_kernel(alloc, head.kernel, tokens) {
-        Ok(text) => {
-            let names = names_in(alloc, tokens)?;
-            with_head(alloc, ids, &FileText { names, text }, head)
-        }
+        Ok(text) => of_text(alloc, ids, head, tokens, text),
         Err(error) => Err(OpenClError::File(error)),
     }
 }

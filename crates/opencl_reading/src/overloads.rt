@@ -19,7 +19,7 @@ fn is_overloading(kind: LexemeKind) -> bool
     }
 }
 
-/// Where the attribute stands for the first time.
+/// The first place of the attribute `overloadable`.
 pub fn first_overloading(tokens: &[Lexeme]) -> Option<Site>
     ensures { option_map site_seen result ≡ rules.first_overloading (lexemes tokens.now) }
 {

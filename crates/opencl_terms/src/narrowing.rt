@@ -75,7 +75,7 @@ pub fn narrowed(alloc: Global, to: Scalar, at: Site, of: Term) -> Result<Term, A
     }
 }
 
-/// What a load of an element of a scalar gives, of the word that memory has (OpenCL 1.2, 6.1.1).
+/// The value of a load of an element of a scalar, by the word that memory has (OpenCL 1.2, 6.1.1).
 pub fn loaded(alloc: Global, from: Scalar, at: Site, of: Term) -> Result<Term, AllocError>
     ensures { IfOk result (λ t. term t ≡ rules.loaded (scalar from) (site at) (term of)) }
 {

@@ -21,7 +21,7 @@ use core_code::tree::{Direction, Operator, Relation, Site, Term};
 use std::alloc::{AllocError, Global};
 use words::Kind;
 
-/// What is made of one component.
+/// An operator on one component.
 #[derive(Clone, Copy)]
 pub enum OfOne {
     Conversion(Scalar),
@@ -34,7 +34,7 @@ pub enum OfOne {
     Refutation,
 }
 
-/// What is made of two components.
+/// An operator on two components.
 #[derive(Clone, Copy)]
 pub enum OfTwo {
     Arithmetic(Operator),
@@ -117,7 +117,7 @@ fn refutation(
     test_of(alloc, from, at, test)
 }
 
-/// What an operator makes of a component of a value of a type.
+/// The result of an operator on a component of a value of a type.
 pub fn of_one_component(
     alloc: Global,
     ids: Kind,
@@ -226,7 +226,7 @@ fn either(
     }
 }
 
-/// What an operator makes of two components of values of a type.
+/// The result of an operator on two components of values of a type.
 pub fn of_two_components(
     alloc: Global,
     ids: Kind,

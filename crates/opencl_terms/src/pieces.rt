@@ -1,4 +1,4 @@
-// Terms of the core, put together.
+//! Builds terms of the core from smaller ones.
 
 ghost use Rattle.std.specs.Prelude.{◌≡◌, IfOk, pos};
 ghost use Rattle.semantics.specs.Core as core;

@@ -100,7 +100,7 @@ impl Scalar {
         matches!(self, Scalar::Float)
     }
 
-    /// It has fewer bits than an `int`, and elements in memory.
+    /// Whether the type has fewer bits than an `int`, and elements in memory.
     pub fn is_narrow(self) -> bool
         ensures { result ≡ rules.is_narrow (seen self) }
     {

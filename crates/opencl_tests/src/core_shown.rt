@@ -1,4 +1,5 @@
-// Cores and maps of names, as texts.
+//! Writes cores, and the names that belong to them, as texts for the tests.
+
 use crate::term_shown::{push_array, push_term};
 use core_code::tree::{Core, Statement};
 use kernel_names::{NameMap, Sort};

@@ -1,4 +1,5 @@
-// Kernels of OpenCL C, against the cores that they stand for by C99.
+//! Tests of whole kernels of OpenCL C: the core of each is the one that C99 asks for.
+
 use crate::core_shown::{push_core, push_names};
 use core_code::tree::Site;
 use opencl_core::heads::LocalCount;

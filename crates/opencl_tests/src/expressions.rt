@@ -1,4 +1,5 @@
-// Terms of expressions of scalars, against what C99 and OpenCL 1.2 say of them.
+//! Tests of scalar expressions of OpenCL C: the term of each is the one that C99 and OpenCL 1.2 ask for.
+
 use crate::term_shown::push_term;
 use core_code::tree::{Array, Space};
 use opencl_parser::expression_of;
@@ -106,7 +107,11 @@ const EXPRESSIONS: &[(&str, &str)] = &[
     ),
     (
         "mul24(u, 3u)",
-        "Uint (? (&& (< Uint v1 Uint:16777216) (< Uint Uint:3 Uint:16777216)) (* Uint v1 Uint:3) (opaque68 Uint v1 Uint:3))",
+        "Uint (? (&& (== Uint (min v1 Uint:16777215) v1) (== Uint (min Uint:3 Uint:16777215) Uint:3)) (* Uint v1 Uint:3) (opaque68 Uint v1 Uint:3))",
+    ),
+    (
+        "get_work_dim()",
+        "Uint (+ Uint (% Uint (opaque210 Uint Uint:0 Uint:0) Uint:3) Uint:1)",
     ),
     ("convert_uchar_sat(i)", "Uchar (min (max v0 Int:0) Int:255)"),
     ("convert_int_rtz(f)", "Int (opaque5 Int v2 Uint:0)"),

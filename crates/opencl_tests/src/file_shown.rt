@@ -1,4 +1,5 @@
-// The kernel that is chosen of a file, as a text.
+//! Writes the kernel that is chosen of a file as a text for the tests.
+
 use crate::statement_shown::{push_declaration, push_dimensions, push_maybe, push_statements};
 use crate::type_shown::{push_base, push_qualifiers, push_stars};
 use opencl_files::errors::{FileError, FileFault};

@@ -1,4 +1,5 @@
-// Kernels of files of OpenCL C, against what C99 and OpenCL 1.2 say of them.
+//! Tests of whole files of OpenCL C: which kernel is chosen, and what it is, by C99 and OpenCL 1.2.
+
 use crate::file_shown::kernel;
 use std::test::Fail;
 

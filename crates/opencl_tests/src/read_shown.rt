@@ -1,4 +1,5 @@
-// What is read of a text, as a text.
+//! Reads an expression or a block of a text, and writes its tree as a text for the tests, or the fault.
+
 use crate::statement_shown::push_statements;
 use crate::tree_shown::push_expression;
 use opencl_parser::stops::ParseError;

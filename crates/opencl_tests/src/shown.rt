@@ -1,4 +1,5 @@
-// What is read of a text, as a text.
+//! Writes the joined lines, the tokens and the lexemes of a text as texts for the tests, or the fault.
+
 use opencl_tokens::{Joined, Lexeme, LexemeKind, Token, TokenKind, join, lexemes, tokens};
 use std::alloc::{AllocError, Global};
 

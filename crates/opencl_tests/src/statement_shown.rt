@@ -1,4 +1,5 @@
-// Statements, as a text: each with its number.
+//! Writes statements, each with its number, as texts for the tests.
+
 use crate::tree_shown::push_expression;
 use crate::type_shown::{push_base, push_qualifiers, push_stars};
 use opencl_tree::tree::{Declaration, Declarator, Expr, First, Initial, Stmt};

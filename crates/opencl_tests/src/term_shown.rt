@@ -1,4 +1,5 @@
-// Terms of the core, as a text.
+//! Writes terms of the core as texts for the tests.
+
 use core_code::tree::{Array, Direction, Function, Operator, Relation, Space, Term, UnaryOperator};
 use std::alloc::AllocError;
 use words::Kind;

@@ -1,4 +1,5 @@
-// Joined lines, tokens and lexemes of OpenCL C, against what C99 and OpenCL 1.2 say of them.
+//! Tests of joined lines, tokens and lexemes of OpenCL C, by C99 and OpenCL 1.2.
+
 use crate::shown::{joined, read, scanned};
 use opencl_tokens::LIMIT;
 use std::test::Fail;

@@ -1,4 +1,5 @@
-// Expressions, as a text: operators in front, in parentheses.
+//! Writes expressions as texts for the tests: an operator stands in front of its operands, in parentheses.
+
 use crate::tree_signs::{infix, operator, prefix, step};
 use crate::type_shown::push_type;
 use opencl_tree::tree::{Expr, Side};

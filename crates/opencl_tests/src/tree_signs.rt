@@ -1,4 +1,5 @@
-// How signs are written.
+//! Writes the signs of operators for the tests.
+
 use core_code::tree::{Operator, Relation};
 use opencl_tree::tree::{PrefixSign, StepSign};
 use syntax::tree::InfixSign;

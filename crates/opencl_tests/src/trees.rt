@@ -1,4 +1,5 @@
-// Trees of OpenCL C, against what C99 and OpenCL 1.2 say of them.
+//! Tests of the trees that are read of OpenCL C, by C99 and OpenCL 1.2.
+
 use crate::read_shown::{block, expression};
 use std::test::Fail;
 

@@ -1,4 +1,5 @@
-// Types, as a text.
+//! Writes types as texts for the tests.
+
 use opencl_tree::types::{Base, Qualifiers, Space, TypeName};
 use std::alloc::AllocError;
 

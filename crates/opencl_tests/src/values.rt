@@ -1,4 +1,5 @@
-// What conversions and operators of OpenCL C make of terms.
+//! Tests of conversions and operators of OpenCL C: the terms that they make of terms.
+
 use crate::term_shown::push_term;
 use core_code::tree::{Direction, Operator, Relation, Site, Term};
 use opencl_terms::conversions::{converted, tested, truth};

@@ -97,7 +97,7 @@ fn byte_of(base: Radix, digits: &[u8]) -> Result<LexemeKind<'static>, TextFault>
     }
 }
 
-/// What stands behind the `\` of a simple escape, and its number.
+/// The characters behind the `\` of simple escapes, each with its number.
 static ESCAPES: [(u8, u8); 11] = [
     (b'\'', 39),
     (b'"', 34),
@@ -112,7 +112,7 @@ static ESCAPES: [(u8, u8); 11] = [
     (b'v', 11),
 ];
 
-/// What stands behind the `\` of a simple escape, and its number.
+/// The characters behind the `\` of simple escapes, each with its number.
 #[tactic(auto, unfolding(crate::specs::Characters::escapes))]
 fn escapes() -> &'static [(u8, u8)]
     ensures { result.now ≡ escapes }

@@ -18,7 +18,7 @@ pub struct Joined {
     pub sites: Vec<Site>,
 }
 
-/// What becomes of the byte at the front of a text.
+/// The fate of the byte at the front of a text.
 #[derive(Clone, Copy)]
 pub enum Fate {
     Stays,

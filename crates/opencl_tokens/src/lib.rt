@@ -34,7 +34,7 @@ pub struct Site {
     pub column: u32,
 }
 
-/// Where a text begins.
+/// The place at which a text begins.
 const FIRST_SITE: Site = Site { line: 1, column: 1 };
 
 /// The kind of a token; what is spelt lends its text.
@@ -91,7 +91,7 @@ pub struct Lexeme<'a> {
     pub site: Site,
 }
 
-/// Why a text has no tokens or lexemes.
+/// The faults for which a text has no tokens or lexemes.
 #[derive(Clone, Copy, Debug)]
 pub enum TextFault {
     BadByte,

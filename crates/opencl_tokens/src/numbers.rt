@@ -24,7 +24,7 @@ pub enum Suffix {
     Long,
 }
 
-/// How suffixes are written.
+/// The suffixes of integers, as they are written.
 static SUFFIXES: [(&[u8], Suffix); 23] = [
     (b"", Suffix::Plain),
     (b"u", Suffix::Unsigned),
@@ -51,7 +51,7 @@ static SUFFIXES: [(&[u8], Suffix); 23] = [
     (b"LLU", Suffix::Long),
 ];
 
-/// How suffixes are written.
+/// The suffixes of integers, as they are written.
 #[tactic(auto, unfolding(crate::specs::Numbers::suffixes))]
 fn suffixes() -> &'static [(&'static [u8], Suffix)]
     ensures { map suffix_entry result.now ≡ suffixes }
@@ -86,7 +86,7 @@ pub fn is_digit(base: Radix, b: u8) -> bool
     }
 }
 
-/// How many digits stand at the front.
+/// The number of digits at the front.
 pub fn digits_len(base: Radix, bytes: &[u8]) -> usize
     ensures digits { result ≡ digits_len (radix base) bytes.now }
     ensures within { result ≤ length bytes.now }

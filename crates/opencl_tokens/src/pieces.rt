@@ -82,7 +82,7 @@ fn is_word_byte(b: u8) -> bool
     is_letter(b) || is_decimal_digit(b)
 }
 
-/// How many bytes a word has.
+/// The number of bytes of a word.
 fn word_len(bytes: &[u8]) -> usize
     ensures word { result ≡ prefix_len is_word_byte bytes.now }
     ensures within { result ≤ length bytes.now }
@@ -157,7 +157,7 @@ fn goes_on(before: u8, b: u8) -> bool
     is_word_byte(b) || b == b'.' || is_exponent(before) && is_sum_sign(b)
 }
 
-/// How many bytes a number has.
+/// The number of bytes of a number.
 fn number_len(bytes: &[u8]) -> usize
     ensures number { result ≡ number_len 0 bytes.now }
     ensures within { result ≤ length bytes.now }
@@ -224,7 +224,7 @@ fn escapes(escaped: bool, b: u8) -> bool
     !escaped && b == b'\\'
 }
 
-/// How many bytes the character constant or string at the front has, where it is closed.
+/// The number of bytes of the character constant or string at the front, where it is closed.
 fn quoted_len(quote: u8, bytes: &[u8]) -> Option<usize>
     ensures quoted { result ≡ quoted_end quote false 1 (drop 1 bytes.now) }
     ensures within { IfSome result (λ count. count ≤ length bytes.now) }
@@ -263,7 +263,7 @@ fn quoted_kind(quote: u8, spelling: &[u8]) -> TokenKind<'_>
     }
 }
 
-/// How many bytes stand before the line feed.
+/// The number of bytes before the line feed.
 fn line_len(bytes: &[u8]) -> usize
     ensures { result ≡ position_or_len is_line_feed bytes.now }
 {

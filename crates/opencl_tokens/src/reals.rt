@@ -8,7 +8,7 @@ use crate::numbers::{Radix, digits_len, is_prefixed};
 use crate::pieces::is_sum_sign;
 use crate::{LexemeKind, TextFault, Word};
 
-/// A floating constant.
+/// Reads the spelling of a floating constant (C99 6.4.4.2), or its fault.
 pub fn real_of(spelling: &[u8]) -> Result<LexemeKind<'_>, TextFault>
     ensures { kind_seen result ≡ real_of spelling.now }
 {

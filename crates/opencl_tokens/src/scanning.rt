@@ -8,7 +8,7 @@ use crate::pieces::{Piece, piece_at};
 use crate::{FIRST_SITE, Joined, Site, Token, TokenError, TokenKind};
 use std::alloc::Global;
 
-/// What stands before a token.
+/// The lead of a token: whether it begins a line, and whether white space or a comment stands before it.
 #[derive(Clone, Copy)]
 pub struct Lead {
     begins_line: bool,

@@ -16,14 +16,14 @@ pub enum PrefixSign {
     AddressOf,
 }
 
-/// `++` or `--`.
+/// The sign of a step: `++` or `--`.
 #[derive(Clone, Copy)]
 pub enum StepSign {
     Increment,
     Decrement,
 }
 
-/// Where the sign of a step stands.
+/// The side on which the sign of a step stands.
 #[derive(Clone, Copy)]
 pub enum Side {
     Before,
@@ -120,7 +120,7 @@ pub enum Expr {
     },
 }
 
-/// What a variable begins with: nothing, an expression, or a list in braces (C99 6.7.8).
+/// The initial value of a variable: none, an expression, or a list in braces (C99 6.7.8).
 #[derive(Drop)]
 pub enum Initial {
     Absent,

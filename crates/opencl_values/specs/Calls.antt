@@ -11,7 +11,7 @@ use Rattle.opencl_terms.specs.Operations as operations
 use Rattle.opencl_values.specs.Faults.{Checked, WrongType, LeftOut, refused, then, when}
 use Rattle.opencl_values.specs.Singles.{Single, single, as_scalar}
 use Rattle.opencl_values.specs.Saturation.{saturated_from, reread, has_bits_of}
-use Rattle.opencl_values.specs.Functions.{Form, IdOf, Converts, Saturates, BitsAs, Integers, Floats, Tests, Reduces, Spreads, Offset, Lesser, Greater, Clamped, Absolute, Product24, Sum24, Scaled, FromBits, Exponent, Selects, Shuffles, Joins, Mixes, Tops, Missing, count_of}
+use Rattle.opencl_values.specs.Functions.{Form, IdOf, Converts, Saturates, BitsAs, Integers, Floats, Tests, Reduces, Spreads, Offset, Lesser, Greater, Clamped, Absolute, Product24, Sum24, Scaled, FromBits, Exponent, Selects, Shuffles, Joins, Mixes, Tops, Dimensions, Missing, count_of}
 
 -- a call: the kind of sizes, the number of the operation, the scalar of all arguments, where it stands, the arguments
 pub record Call : Type 0 where
@@ -81,19 +81,19 @@ abbrev pub absolute_scalar : (to : Scalar) → Scalar
 absolute_scalar Int = Uint
 absolute_scalar to = to
 
--- a number of 24 bits: -2^23 to 2^23 - 1, or below 2^24
-abbrev pub is_high_enough : Call → (place : ℕ) → Term
-is_high_enough c n = Compare word.AtLeast word.Int (argument c n) (Unary word.Negate word.Int c.site (int 8388608))
+-- a number of 24 bits, -2^23 to 2^23 - 1, or below 2^24, is what it is cut to. Where what is known of its ends says so, this test has one way
+abbrev pub cut_int : Call → (place : ℕ) → Term
+cut_int c n = Minimum (Maximum (argument c n) (Unary word.Negate word.Int c.site (int 8388608))) (int 8388607)
 
-abbrev pub int_has_24_bits : Call → (place : ℕ) → Term
-int_has_24_bits c n = And (is_high_enough c n) (Compare word.Less word.Int (argument c n) (int 8388608))
+abbrev pub cut_to_24_bits : (to : Scalar) → Call → (place : ℕ) → Term
+cut_to_24_bits Int c n = cut_int c n
+cut_to_24_bits to c n = Minimum (argument c n) (Literal (kind_in c) (pos 16777215))
 
-abbrev pub has_24_bits : (to : Scalar) → Call → (place : ℕ) → Term
-has_24_bits Int c n = int_has_24_bits c n
-has_24_bits to c n = Compare word.Less (kind_in c) (argument c n) (uint 16777216)
+abbrev pub has_24_bits : Call → (place : ℕ) → Term
+has_24_bits c n = Compare word.Equal (kind_in c) (cut_to_24_bits c.to c n) (argument c n)
 
 abbrev pub have_24_bits : Call → Term
-have_24_bits c = And (has_24_bits c.to c 0) (has_24_bits c.to c 1)
+have_24_bits c = And (has_24_bits c 0) (has_24_bits c 1)
 
 abbrev pub product : Call → Term
 product c = Binary word.Multiply (kind_in c) c.site (argument c 0) (argument c 1)
@@ -115,6 +115,10 @@ scaled c = Opaque c.operation 0 word.Uint (argument_as Float c 0) (argument_as I
 -- an `int` of 0 or 1, by what a test of floats gives (6.12.6)
 abbrev pub test : Call → Term
 test c = Compare word.Unequal word.Uint (unreckoned_as Float word.Uint c) operations.nothing
+
+-- how many dimensions a launch has, 1 to 3: no one knows which (6.12.1)
+abbrev pub dimensions : Call → Term
+dimensions c = Binary word.Add word.Uint c.site (Binary word.Remainder word.Uint c.site (unreckoned_as Uint word.Uint c) (uint 3)) (uint 1)
 
 abbrev pub first_in : List Single → Single
 first_in [] = single Uint operations.nothing
@@ -151,6 +155,7 @@ scalar_made Absolute to = absolute_scalar to
 scalar_made Scaled to = Float
 scalar_made FromBits to = Float
 scalar_made Exponent to = Int
+scalar_made Dimensions to = Uint
 scalar_made f to = to
 
 abbrev pub term_made : Form → Call → Term
@@ -178,6 +183,7 @@ term_made Shuffles c = operations.nothing
 term_made Joins c = operations.nothing
 term_made Mixes c = operations.nothing
 term_made (Tops is_all) c = operations.nothing
+term_made Dimensions c = dimensions c
 term_made (Missing construct) c = operations.nothing
 
 abbrev pub made : Form → Call → Checked Single

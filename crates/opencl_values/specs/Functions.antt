@@ -10,12 +10,12 @@ use Rattle.opencl_values.specs.Scope.{or_else}
 -- `Integers` take integers of one scalar and give such a one; `Floats` take and give floats; `Scaled` a float and an `int`; `FromBits`
 -- makes a float of a `uint`, `Exponent` an `int` of a float; `Tests` of floats give an `int` of 0 or 1; of vectors `Reduces` gives a float
 -- of all components, `Spreads` a vector of such; `Selects` chooses between two, `Shuffles` takes components by numbers, `Joins` those of two;
--- `Mixes` chooses bit by bit, `Tops` gives an `int` of the highest bits
+-- `Mixes` chooses bit by bit, `Tops` gives an `int` of the highest bits; `Dimensions` is `get_work_dim`
 pub data Form : Type 0 where
   IdOf : (function : Function) → Form
   Converts Saturates BitsAs : (to : Scalar) → Form
   Integers Floats Tests Reduces Spreads : (count : ℕ) → Form
-  Offset Lesser Greater Clamped Absolute Product24 Sum24 Scaled FromBits Exponent Selects Shuffles Joins Mixes : Form
+  Offset Lesser Greater Clamped Absolute Product24 Sum24 Scaled FromBits Exponent Selects Shuffles Joins Mixes Dimensions : Form
   Tops : (is_all : Bool) → Form
   Missing : (construct : Construct) → Form
 
@@ -45,10 +45,11 @@ count_of Shuffles = 2
 count_of Joins = 3
 count_of Mixes = 3
 count_of (Tops is_all) = 1
+count_of Dimensions = 0
 count_of (Missing construct) = 0
 
 -- functions of 6.12.2 to 6.12.6: of integers, of floats, their cheaper forms, common and geometric ones, tests. Those with a pointer are
--- left out
+-- left out. The last one is a work-item function whose value no one knows
 unfoldable pub functions : List (List ℕ × Form)
 functions =
     (codes "min", Lesser) ∷ (codes "max", Greater) ∷ (codes "clamp", Clamped) ∷ (codes "abs", Absolute) ∷ (codes "mul24", Product24)
@@ -87,7 +88,8 @@ functions =
     ∷ (codes "fract", Missing Pointer) ∷ (codes "frexp", Missing Pointer) ∷ (codes "lgamma_r", Missing Pointer)
     ∷ (codes "modf", Missing Pointer) ∷ (codes "remquo", Missing Pointer) ∷ (codes "sincos", Missing Pointer) ∷ (codes "cross", Spreads 2)
     ∷ (codes "select", Selects) ∷ (codes "shuffle", Shuffles) ∷ (codes "shuffle2", Joins)
-    ∷ (codes "bitselect", Mixes) ∷ (codes "any", Tops false) ∷ (codes "all", Tops true) ∷ []
+    ∷ (codes "bitselect", Mixes) ∷ (codes "any", Tops false) ∷ (codes "all", Tops true)
+    ∷ (codes "get_work_dim", Dimensions) ∷ []
 
 -- the work-item functions (6.12.1)
 unfoldable pub item_functions : List (List ℕ × Form)

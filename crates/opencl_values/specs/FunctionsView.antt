@@ -35,6 +35,7 @@ form forms.Shuffles = functions.Shuffles
 form forms.Joins = functions.Joins
 form forms.Mixes = functions.Mixes
 form (forms.Tops is_all) = functions.Tops is_all
+form forms.Dimensions = functions.Dimensions
 form (forms.Missing c) = functions.Missing (construct c)
 
 -- an entry of a table of functions, and of one of beginnings

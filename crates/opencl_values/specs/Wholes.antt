@@ -56,9 +56,9 @@ is_idle (Variable slot) = true
 is_idle (Id k f d) = true
 is_idle t = false
 
--- a term, behind one that is evaluated and whose value is not used
+-- a term, behind one that is evaluated and whose value is not used: that is multiplied by 0, a test that has one way
 abbrev pub behind : Site → (first : Term) → Term → Term
-behind site first t = cond (is_idle first) t (Select (Binary word.BitAnd word.Uint site first (uint 0)) nothing t)
+behind site first t = cond (is_idle first) t (Select (Binary word.Multiply word.Uint site first (uint 0)) nothing t)
 
 abbrev pub behind_unpicked : Site → Value → (picked : List ℕ) → (place : ℕ) → Term → Term
 behind_unpicked site v picked p t = cond (is_among picked p) t (behind site (component v p).term t)

@@ -236,11 +236,11 @@ fn absolute(alloc: Global, call: Call) -> Result<Term, AllocError>
     }
 }
 
-// At least -2^23.
-fn is_high_enough(alloc: Global, call: Call, place: usize) -> Result<Term, AllocError>
-    ensures { IfOk result (λ t. term t ≡ rules.is_high_enough (seen call.entry) place) }
+// An `int`, cut to 24 bits.
+fn cut_int(alloc: Global, call: Call, place: usize) -> Result<Term, AllocError>
+    ensures { IfOk result (λ t. term t ≡ rules.cut_int (seen call.entry) place) }
 {
-    let least = unary(
+    let lowest = unary(
         alloc,
         UnaryOperator::Negate,
         Kind::Int,
@@ -248,43 +248,28 @@ fn is_high_enough(alloc: Global, call: Call, place: usize) -> Result<Term, Alloc
         literal(Kind::Int, 8388608),
     )?;
     let value = argument(alloc, call, place)?;
-    compare(alloc, Relation::AtLeast, Kind::Int, value, least)
+    let value = maximum(alloc, value, lowest)?;
+    minimum(alloc, value, literal(Kind::Int, 8388607))
 }
 
-fn is_below(
-    alloc: Global,
-    call: Call,
-    place: usize,
-    kind: Kind,
-    bound: Term,
-) -> Result<Term, AllocError>
-    ensures { IfOk result (λ t. term t ≡ core.Compare word.Less (kind_seen kind) (rules.argument (seen call.entry) place) (term bound)) }
+fn cut_to_24_bits(alloc: Global, call: Call, place: usize) -> Result<Term, AllocError>
+    ensures { IfOk result (λ t. term t ≡ rules.cut_to_24_bits (scalar_seen call.entry.to) (seen call.entry) place) }
 {
-    let value = argument(alloc, call, place)?;
-    compare(alloc, Relation::Less, kind, value, bound)
-}
-
-fn int_has_24_bits(alloc: Global, call: Call, place: usize) -> Result<Term, AllocError>
-    ensures { IfOk result (λ t. term t ≡ rules.int_has_24_bits (seen call.entry) place) }
-{
-    let low = is_high_enough(alloc, call, place)?;
-    let high = is_below(alloc, call, place, Kind::Int, literal(Kind::Int, 8388608))?;
-    and(alloc, low, high)
+    match call.to {
+        Scalar::Int => cut_int(alloc, call, place),
+        _ => {
+            let value = argument(alloc, call, place)?;
+            minimum(alloc, value, literal(call.kind(), 16777215))
+        }
+    }
 }
 
 fn has_24_bits(alloc: Global, call: Call, place: usize) -> Result<Term, AllocError>
-    ensures { IfOk result (λ t. term t ≡ rules.has_24_bits (scalar_seen call.entry.to) (seen call.entry) place) }
+    ensures { IfOk result (λ t. term t ≡ rules.has_24_bits (seen call.entry) place) }
 {
-    match call.to {
-        Scalar::Int => int_has_24_bits(alloc, call, place),
-        _ => is_below(
-            alloc,
-            call,
-            place,
-            call.kind(),
-            literal(Kind::Uint, 16777216),
-        ),
-    }
+    let cut = cut_to_24_bits(alloc, call, place)?;
+    let value = argument(alloc, call, place)?;
+    compare(alloc, Relation::Equal, call.kind(), cut, value)
 }
 
 fn have_24_bits(alloc: Global, call: Call) -> Result<Term, AllocError>
@@ -381,6 +366,16 @@ fn reread_first(alloc: Global, to: Scalar, call: Call) -> Result<Term, AllocErro
     reread(alloc, call.ids, call.at, of.scalar, to, of.term)
 }
 
+// How many dimensions a launch has: a number from 1 to 3 that no one knows.
+fn dimensions(alloc: Global, call: Call) -> Result<Term, AllocError>
+    ensures { IfOk result (λ t. term t ≡ rules.dimensions (seen call.entry)) }
+{
+    let (at, kind) = (call.at, Kind::Uint);
+    let word = unreckoned_as(alloc, Scalar::Uint, kind, call)?;
+    let rest = binary(alloc, Operator::Remainder, kind, at, word, literal(kind, 3))?;
+    binary(alloc, Operator::Add, kind, at, rest, literal(kind, 1))
+}
+
 // The scalar of the first argument.
 fn first_scalar(of: &[Single]) -> Scalar
     ensures { scalar_seen result ≡ (rules.first_in (values of.now)).scalar }
@@ -412,6 +407,7 @@ pub fn scalar_made(form: Form, to: Scalar) -> Scalar
         Form::Floats(_) | Form::Reduces(_) | Form::Spreads(_) | Form::Scaled | Form::FromBits =>
             Scalar::Float,
         Form::Tests(_) | Form::Exponent => Scalar::Int,
+        Form::Dimensions => Scalar::Uint,
         Form::Absolute => match to {
             Scalar::Int => Scalar::Uint,
             _ => to,
@@ -442,6 +438,7 @@ pub fn term_made(alloc: Global, form: Form, call: Call) -> Result<Term, AllocErr
         Form::Scaled => scaled(alloc, call),
         Form::FromBits => unreckoned_as(alloc, Scalar::Uint, Kind::Uint, call),
         Form::Exponent => unreckoned_as(alloc, Scalar::Float, Kind::Int, call),
+        Form::Dimensions => dimensions(alloc, call),
         Form::IdOf(_)
         | Form::Offset
         | Form::Selects

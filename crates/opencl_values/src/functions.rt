@@ -52,11 +52,13 @@ pub enum Form {
     Mixes,
     /// An integer, and it gives an `int`: whether the highest bits of all components are 1, or else whether one is.
     Tops(bool),
+    /// How many dimensions a launch has.
+    Dimensions,
     Missing(Construct),
 }
 
-/// The functions of OpenCL 1.2, 6.12.2 to 6.12.6.
-static FUNCTIONS: [(&[u8], Form); 146] = [
+/// The functions of OpenCL 1.2, 6.12.2 to 6.12.6, and `get_work_dim`.
+static FUNCTIONS: [(&[u8], Form); 147] = [
     (b"min", Form::Lesser),
     (b"max", Form::Greater),
     (b"clamp", Form::Clamped),
@@ -203,6 +205,7 @@ static FUNCTIONS: [(&[u8], Form); 146] = [
     (b"bitselect", Form::Mixes),
     (b"any", Form::Tops(false)),
     (b"all", Form::Tops(true)),
+    (b"get_work_dim", Form::Dimensions),
 ];
 
 /// The work-item functions (6.12.1).
@@ -360,7 +363,7 @@ impl Form {
             | Form::Spreads(count) => count,
             Form::Lesser | Form::Greater | Form::Product24 | Form::Scaled | Form::Shuffles => 2,
             Form::Clamped | Form::Sum24 | Form::Selects | Form::Joins | Form::Mixes => 3,
-            Form::Missing(_) => 0,
+            Form::Dimensions | Form::Missing(_) => 0,
         }
     }
 }

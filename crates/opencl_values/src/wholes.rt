@@ -171,7 +171,7 @@ pub fn behind(alloc: Global, at: Site, first: Term, of: Term) -> Result<Term, Al
         return Ok(of);
     }
     let none = literal(Kind::Uint, 0);
-    let test = binary(alloc, Operator::BitAnd, Kind::Uint, at, first, none)?;
+    let test = binary(alloc, Operator::Multiply, Kind::Uint, at, first, none)?;
     select(alloc, test, nothing(), of)
 }
 

@@ -9,7 +9,7 @@ ghost use Rattle.texts.specs.Limits as limits;
 use core_code::tree::Site;
 use syntax::tree::{First, Parameter, Stmt};
 
-/// How many names of each sort are declared so far.
+/// The numbers of names of each sort that are declared so far.
 #[derive(Clone, Copy)]
 pub struct Counts {
     pub buffers: u32,

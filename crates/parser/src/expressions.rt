@@ -23,7 +23,7 @@ use std::alloc::Global;
 use syntax::tree::{Expr, PrefixSign};
 use words::Kind;
 
-/// How many arguments are read after the first: a text within its limit has fewer.
+/// The most arguments that are read after the first: a text within its limit has fewer.
 const MOST_ARGUMENTS: u32 = 65_536;
 
 // The tree with `?`, and what is left.

@@ -21,7 +21,7 @@ use lexer::Token;
 use std::alloc::Global;
 use syntax::tree::{Kernel, Parameter, Stmt};
 
-/// How many parameters are read after the first: a kernel has fewer.
+/// The most parameters that are read after the first: a kernel has fewer.
 const MOST_PARAMETERS: u32 = 80;
 
 #[tactic(auto, using(crate::proofs::Steps::part_steps), unfolding(crate::specs::Kernels::buffer_reader))]

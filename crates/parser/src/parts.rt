@@ -28,7 +28,7 @@ pub struct Head {
     pub update: Assignment,
 }
 
-/// What is assigned to: a variable, or an element of an array.
+/// The target of an assignment: a variable, or an element of an array.
 #[derive(Drop)]
 struct Destination {
     site: Site,

@@ -29,7 +29,7 @@ impl ParseFault {
     }
 }
 
-/// Why reading stopped: a fault, with the tokens from the one that is to blame on.
+/// The reason for which reading stopped: a fault, with the tokens from the one that is to blame on.
 #[derive(Drop)]
 pub enum Stop<'a> {
     Refused(ParseFault, &'a [Token<'a>]),

@@ -34,7 +34,7 @@ fn is_of(bound: &BufferBound, buffer: u32) -> bool
     bound.buffer == buffer
 }
 
-/// What a line says of a number that its buffer holds; where its sum has no form, nothing.
+/// The fact that a line gives of a number that its buffer holds; where its sum has no form, a fact that says nothing.
 fn content_fact(alloc: Global, bound: &BufferBound, form: &Form) -> Result<Form, WalkError>
     ensures { MatchResult result (λ f. form_seen f ≡ contents.content_fact (bound_seen bound.now) (form_seen form.now)) (λ e. IsUnfit e (contents.content_fact (bound_seen bound.now) (form_seen form.now))) }
 {
@@ -50,7 +50,7 @@ fn content_fact(alloc: Global, bound: &BufferBound, form: &Form) -> Result<Form,
     }
 }
 
-/// What is owed of a number that is stored; where the line's sum has no form, what is never so.
+/// The obligation of a number that is stored; where the line's sum has no form, one that never holds.
 fn content_owed(alloc: Global, bound: &BufferBound, form: &Form) -> Result<Form, WalkError>
     ensures { MatchResult result (λ f. form_seen f ≡ contents.content_owed (bound_seen bound.now).is_upper (bound_seen bound.now).sum (form_seen form.now)) (λ e. IsUnfit e (contents.content_owed (bound_seen bound.now).is_upper (bound_seen bound.now).sum (form_seen form.now))) }
 {
@@ -66,7 +66,7 @@ fn content_owed(alloc: Global, bound: &BufferBound, form: &Form) -> Result<Form,
     }
 }
 
-/// What a line says of a number, which narrows, where the line is of its buffer.
+/// Adds the fact that a line gives of a number, where the line is of its buffer. It narrows.
 fn know_content<D: Domain>(
     setting: &Setting<D>,
     path: &mut Path<D>,
@@ -83,7 +83,7 @@ fn know_content<D: Domain>(
     tell(setting, path, fact)
 }
 
-/// What the lines of a buffer say of a number that it holds, one after another.
+/// Adds the facts that the lines of a buffer give of a number that it holds, one after another.
 fn know_of_buffer<D: Domain>(
     setting: &Setting<D>,
     path: &mut Path<D>,
@@ -98,7 +98,8 @@ fn know_of_buffer<D: Domain>(
     Ok(())
 }
 
-/// What the lines of an array say of a number that it holds, one after another; of a local array nothing is said.
+/// Adds the facts that the lines of an array give of a number that it holds, one after another; of a local array there
+/// are none.
 pub fn know_contents<D: Domain>(
     setting: &Setting<D>,
     path: &mut Path<D>,

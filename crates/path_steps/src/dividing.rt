@@ -132,7 +132,7 @@ fn up_to<D: Domain>(number: i64) -> D
     between(0, number - 1)
 }
 
-/// What a quotient leaves, as a new symbol of this element.
+/// A new symbol, with this element, for the remainder of a quotient.
 pub fn named_by<D: Domain>(
     setting: &Setting<D>,
     path: &mut Path<D>,
@@ -149,7 +149,7 @@ pub fn named_by<D: Domain>(
     Ok(name)
 }
 
-/// What a quotient leaves, as a new symbol: from 0 up to below the number.
+/// A new symbol for the remainder of a quotient: from 0 up to below the number.
 fn named<D: Domain>(
     setting: &Setting<D>,
     path: &mut Path<D>,
@@ -164,7 +164,7 @@ fn named<D: Domain>(
     named_by(setting, path, up_to(number), left)
 }
 
-/// What a form that is at least 0 leaves by a number above 0, as a new symbol.
+/// A new symbol for the remainder of a form that is at least 0 by a number above 0.
 pub fn name_left<D: Domain>(
     setting: &Setting<D>,
     path: &mut Path<D>,
@@ -182,7 +182,7 @@ pub fn name_left<D: Domain>(
     named(setting, path, number, &parts.1)
 }
 
-/// What a form that is at least 0 leaves by a number above 0; the wide walk names it.
+/// The remainder of a form that is at least 0 by a number above 0. The wide walk names it.
 pub fn left_by<D: Domain>(
     setting: &Setting<D>,
     path: &mut Path<D>,

@@ -128,7 +128,7 @@ pub fn joined_negation<D: Domain>(
     Ok(Some(negation))
 }
 
-/// What the domain knows of a difference where it is above 0, and else of 0.
+/// The domain's element of the greater one of a difference and 0.
 fn excess<D: Domain>(setting: &Setting<D>, path: &Path<D>, difference: &Form) -> D
     ensures { result ≡ joined.excess (seen D.Domain setting.now) (followed path.now).state (form_seen difference.now) }
 {
@@ -270,7 +270,7 @@ fn over_end<D: Domain>(low: Option<i64>, element: D) -> D
     }
 }
 
-/// What the domain knows of the less of two numbers, or of the greater one.
+/// The domain's element of the less of two numbers, or of the greater one.
 fn picked_element<D: Domain>(
     setting: &Setting<D>,
     path: &Path<D>,

@@ -36,7 +36,7 @@ pub struct Spot {
     pub site: Site,
 }
 
-/// Which access it is: a store or a load, of an array, and where the array is named.
+/// The target of an access: a store or a load, the array, and the site where the array is named.
 #[derive(Clone, Copy)]
 pub struct Target {
     pub is_store: bool,

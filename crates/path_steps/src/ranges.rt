@@ -126,7 +126,7 @@ fn know_high<D: Copy>(
     Ok(())
 }
 
-/// What an element knows of a form: its ends, where it has them.
+/// Adds the facts that an element gives of a form: its ends, where it has them.
 fn know_bounds<D: Domain>(
     alloc: Global,
     path: &mut Path<D>,

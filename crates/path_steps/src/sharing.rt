@@ -70,7 +70,7 @@ fn within<D: Domain>(kind: Kind, element: D) -> D
     }
 }
 
-/// What the domain knows of a quotient that is rounded down.
+/// The domain's element of a quotient that is rounded down.
 fn quotient_element<D: Domain>(
     setting: &Setting<D>,
     path: &Path<D>,
@@ -84,7 +84,7 @@ fn quotient_element<D: Domain>(
     within(kind, element.at_least(0))
 }
 
-/// What it knows of what is left.
+/// The domain's element of the remainder of a quotient that is rounded down.
 fn left_element<D: Domain>(
     setting: &Setting<D>,
     path: &Path<D>,
@@ -109,7 +109,7 @@ fn next_product<D: Domain>(
     small_product(setting.alloc, &newest, divisor)
 }
 
-/// What is left is below the divisor.
+/// The fact that the remainder is below the divisor.
 fn below_divisor(alloc: Global, divisor: &Form, left: &Form) -> Result<Form, WalkError>
     requires { fits (minus (form_seen divisor.now) (constant (pos 1))) ≡ true }
     ensures { MatchResult result (λ f. form_seen f ≡ sharing.below_divisor (form_seen divisor.now) (form_seen left.now)) (λ e. IsUnfit e (sharing.below_divisor (form_seen divisor.now) (form_seen left.now))) }

@@ -291,7 +291,7 @@ fn choose_equal<D: Domain>(
     path.choose_unless(equal_is_out, unequal_is_out)
 }
 
-/// Which of three ways are left out.
+/// For each of three ways, whether it is left out.
 #[derive(Clone, Copy)]
 pub struct LeftOut {
     pub first: bool,
@@ -313,7 +313,7 @@ fn choose_first<D: Domain>(path: &mut Path<D>, out: LeftOut) -> Result<bool, Wal
     path.choose_unless(out.first, leaves_out_rest(out))
 }
 
-/// Which of the ways of inequality are left out: below, above, equal.
+/// The ways of an inequality that are left out: below, above, equal.
 fn left_out_of_order<D: Domain>(
     setting: &Setting<D>,
     path: &Path<D>,
@@ -608,7 +608,7 @@ fn leaves_out_zero<D: Domain>(
     leaves_out(setting, path, setting.is_wide, fact)
 }
 
-/// Which of the ways of a number as a test are left out: above 0, below 0, or 0.
+/// The ways of a number as a test that are left out: above 0, below 0, or 0.
 fn left_out_of_sign<D: Domain>(
     setting: &Setting<D>,
     path: &Path<D>,

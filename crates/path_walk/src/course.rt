@@ -82,7 +82,7 @@ pub fn walk_set<D: Domain>(
     Ok(())
 }
 
-/// What is stored, and where: the array, the site where it is named, the index, and the value.
+/// A store: its array, the site of the array's name, the index, and the value.
 #[derive(Clone, Copy)]
 pub struct Store<'a> {
     pub array: Array,

@@ -37,7 +37,7 @@ pub fn quotient_alone<D: Domain>(
     Ok(parts.0)
 }
 
-/// What there is of a quotient, else a new symbol with what the domain tells of it.
+/// The quotient where one was found; else a new symbol with the domain's element of the quotient.
 fn quotient_or_new<D: Domain>(
     setting: &Setting<D>,
     path: &mut Path<D>,

@@ -70,7 +70,7 @@ fn told_sum<D: Domain>(
     }
 }
 
-/// What is known of `x | y` or `x ^ y`, neither of which is negative.
+/// A new symbol for `x | y` or `x ^ y` of two operands that are not negative, with the domain's element of it.
 fn join_any<D: Domain>(
     setting: &Setting<D>,
     path: &mut Path<D>,
@@ -161,7 +161,7 @@ fn with_bit<D: Domain>(
     Ok(form)
 }
 
-/// How many times the bit that was there is taken away.
+/// The multiple of the bit that is taken from the sum of both operands: its place value for `|`, twice that for `^`.
 fn bit_times(is_or: bool, lowest: u32) -> i64
     requires { lowest ≤ 30 }
     ensures exact { result ≡ cond is_or (pos (2 ^ lowest)) (pos (2 ^ (lowest + 1))) }
@@ -213,7 +213,7 @@ fn joins<D: Domain>(
     invent(setting, path, any_of(kind))
 }
 
-/// `x | y`.
+/// The form of `x | y` on a path of the wide walk.
 pub fn join<D: Domain>(
     setting: &Setting<D>,
     path: &mut Path<D>,
@@ -227,7 +227,7 @@ pub fn join<D: Domain>(
     joins(setting, path, true, kind, left, right)
 }
 
-/// `x ^ y`.
+/// The form of `x ^ y` on a path of the wide walk.
 pub fn differ<D: Domain>(
     setting: &Setting<D>,
     path: &mut Path<D>,

@@ -36,7 +36,7 @@ fn masked_by<D: Domain>(
     invent(setting, path, any_of(kind))
 }
 
-/// What is known of bits that are no remainder; the wide walk knows more.
+/// A new symbol for `x & y` where it is no remainder. The wide walk knows more of it.
 fn met_or_masked<D: Domain>(
     setting: &Setting<D>,
     path: &mut Path<D>,

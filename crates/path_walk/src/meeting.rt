@@ -60,7 +60,7 @@ pub fn bits_from<D: Domain>(
     upper_bits(setting, path, kind, of, lowest)
 }
 
-/// What is known of the bits of both beforehand.
+/// The domain's element of `x & y`, before more is told of it.
 fn met<D: Domain>(setting: &Setting<D>, path: &Path<D>, kind: Kind, left: &Form, right: &Form) -> D
     ensures { result ≡ bits.met (seen D.Domain setting.now) (followed path.now).state (kind_seen kind) (form_seen left.now) (form_seen right.now) }
 {
@@ -73,7 +73,7 @@ fn met<D: Domain>(setting: &Setting<D>, path: &Path<D>, kind: Kind, left: &Form,
     any_of(kind)
 }
 
-/// What is known of the bits of both: they are at most each operand that is not negative.
+/// A new symbol for `x & y`, which is at most each operand that is not negative.
 fn meet_any<D: Domain>(
     setting: &Setting<D>,
     path: &mut Path<D>,
@@ -101,7 +101,7 @@ fn at_place(alloc: Global, lowest: u32, of: &Form) -> Result<Form, WalkError>
     times(alloc, power_of(lowest), of)
 }
 
-/// How many numbers the bits of a run have.
+/// The modulus of a run of bits: the number of values that they can have.
 fn run_width(kind: Kind, lowest: u32, number: i64) -> i64
     requires few { lowest ≤ 31 }
     requires run { bits.is_run (kind_seen kind) lowest number ≡ true }
@@ -112,7 +112,7 @@ fn run_width(kind: Kind, lowest: u32, number: i64) -> i64
     (number + power_of(lowest)) / power_of(lowest)
 }
 
-/// What the bits from a place on leave by the width of a run.
+/// The remainder of the bits from a place on, by the modulus of a run.
 fn left_run<D: Domain>(
     setting: &Setting<D>,
     path: &mut Path<D>,

@@ -20,7 +20,7 @@ use path_steps::{
 };
 use words::Kind;
 
-/// What there is of a remainder, else a new symbol with what the domain tells of it.
+/// The remainder where one was found; else a new symbol with the domain's element of the remainder.
 fn left_or_new<D: Domain>(
     setting: &Setting<D>,
     path: &mut Path<D>,

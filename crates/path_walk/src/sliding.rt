@@ -25,7 +25,7 @@ use path_steps::{
 };
 use words::Kind;
 
-/// How far a shift by a number goes: as its lowest five bits say (OpenCL 1.2, 6.3 j).
+/// The distance of a shift by a number: its lowest five bits (OpenCL 1.2, 6.3 j).
 fn count_of(number: i64) -> u32
     ensures value { result ≡ semantics.count_of number }
     ensures few { result ≤ 31 }
@@ -33,7 +33,7 @@ fn count_of(number: i64) -> u32
     number.rem_euclid(32) as u32
 }
 
-/// How far a shift goes, where its count is a number.
+/// The distance of a shift whose count is a number; else none.
 fn count_in(count: &Form) -> Option<u32>
     ensures value { result ≡ sliding.count_in (form_seen count.now) }
     ensures few { IfSome result (λ n. n ≤ 31) }
@@ -51,7 +51,7 @@ fn is_one(of: &Form) -> bool
     is_number(of) && of.constant_part() == 1
 }
 
-/// What is known of a value that is shifted to the left: `1u` becomes one of 2^0 to 2^31.
+/// The domain's element of a value that is shifted to the left by an unknown count: `1u` becomes one of 2^0 to 2^31.
 fn left_element<D: Domain>(setting: &Setting<D>, kind: Kind, of: &Form) -> D
     ensures { result ≡ sliding.left_element (seen D.Domain setting.now) (kind_seen kind) (form_seen of.now) }
 {
@@ -61,7 +61,8 @@ fn left_element<D: Domain>(setting: &Setting<D>, kind: Kind, of: &Form) -> D
     }
 }
 
-/// What is known of a value that is shifted to the right: it is not negative where it was not.
+/// The domain's element of a value that is shifted to the right by an unknown count: it is not negative where the value
+/// was not.
 fn right_element<D: Domain>(setting: &Setting<D>, path: &Path<D>, kind: Kind, of: &Form) -> D
     ensures { result ≡ sliding.right_element (seen D.Domain setting.now) (followed path.now).state (kind_seen kind) (form_seen of.now) }
 {
@@ -189,7 +190,8 @@ fn shift_by<D: Domain>(
     }
 }
 
-/// A value of a kind that is shifted as far as a form says (OpenCL 1.2, 6.3 j; C99 6.5.7); a form of which one number is left is that number.
+/// A value of a kind, shifted by a form (OpenCL 1.2, 6.3 j; C99 6.5.7). A form that can be one number alone is taken as
+/// that number.
 pub fn shifted<D: Domain>(
     setting: &Setting<D>,
     path: &mut Path<D>,

@@ -32,7 +32,7 @@ fn all_bits(count: u32) -> i64
     power_of(count) - 1
 }
 
-/// What was found, if a number has at most so many bits, or the greatest number of one bit more.
+/// `found` where the number has at most `count` bits, and else the greatest number of one bit more.
 fn width_or(number: i64, count: u32, found: i64) -> i64
     requires { count ≤ 31 }
     ensures { result ≡ cond (int_le number (pos (2 ^ count) -ℤ pos 1)) found (pos (2 ^ (count + 1)) -ℤ pos 1) }
@@ -80,7 +80,7 @@ fn upper_of<D: Domain>(setting: &Setting<D>, path: &Path<D>, kind: Kind, form: &
     upper(kind, bounds_of(setting, path, form).high)
 }
 
-/// What each bit is of that one of two forms has, neither of which is negative.
+/// The range from 0 to the largest number with as many bits as two forms can have. Neither is negative.
 pub fn joined<D: Domain>(
     setting: &Setting<D>,
     path: &Path<D>,

@@ -5,8 +5,8 @@ ghost use Rattle.std.specs.Prelude.{◌≡◌};
 use std::alloc::{AllocError, AllocFailed};
 use thiserror::Error;
 
-/// Why places were not told. The loop of that number has a barrier, and an item may come through its body, or to a `continue` of it,
-/// without one.
+/// The reasons for which places are not told. A missed loop, by its number, has a barrier, and an item may come through
+/// its body, or to a `continue` of it, without one.
 #[derive(Debug, Drop, Error)]
 pub enum PlaceError {
     #[error("55 {0}")]

@@ -1,4 +1,5 @@
-// Laws of the definitions, each the contract of a function that does nothing.
+//! Laws of the definitions of plain kernels. Each is the contract of a function with an empty body.
+
 ghost use Rattle.std.specs.Prelude.{◌≡◌, ◌⊎◌, ℕ, suc, [], ◌∷◌, true, false, None, get_or};
 ghost use Rattle.semantics.specs.Launch.{Kernel};
 ghost use Rattle.semantics.specs.Conditions.{Conditions};

@@ -23,8 +23,9 @@ use Rattle.telling.specs.Telling.{IsAcceptedText, accepted_line}
 use Rattle.telling.specs.Proving.{no_launch_line}
 use Rattle.telling.specs.ProvingVerdicts.{Begins, Explains, IsProvedBySome}
 use Rattle.telling.specs.Migrating.{IsUnmigrated}
+use Rattle.telling.specs.Showing.{IsUnshown}
 use Rattle.cert_check.specs.declared.error.CheckError.TheVariants as errors
-use Rattle.program.specs.Running.{limit_by, kernel_read, conditions_read, certificate_read, saving, Request, CheckOwn, Check, Run, Prove, Explain, ExplainCheck, Print, Migrate, Texts, Asks, Answered, IsSafeText, IsSought, Fulfils}
+use Rattle.program.specs.Running.{limit_by, kernel_read, conditions_read, certificate_read, saving, Request, CheckOwn, Check, Run, Prove, Explain, ExplainCheck, Print, Show, ShowAlone, Migrate, Texts, Asks, Answered, IsSafeText, IsSought, Fulfils}
 use Rattle.program.specs.Running.{Read, Write, IsOf, Reads, Does, Saves, IsRefusalText, Success, Output, done, refused, silent, torn}
 use Rattle.program.specs.Refusing.{Refuses, Refusal}
 use Rattle.program.specs.Verdicts.{IsAnsweredBy, Tells, Finds, Kept, Moves, Moved, Explained, IsTold, IsWritten}
@@ -43,6 +44,9 @@ run_line is_wide workers k c p l line (inr (inr (inr (e, kernel, conditions, lau
 
 print_line : (k line : List ℕ) → IsRefusedKernel k line → IsRefusalLine line
 print_line k line (e, r, h) = (kernels.error_number e, place_seen (checks.at_place (kernels.error_place e)), h)
+
+show_line : (k : Source) (line : List ℕ) → IsUnshown k line → IsRefusalLine line
+show_line k line (p, (e, r, h)) = (checks.error_number (errors.Kernel e), place_seen (checks.error_place (errors.Kernel e)), h)
 
 migrate_line : (old line : List ℕ) → IsUnmigrated old line → IsRefusalLine line
 migrate_line old line (e, r, h) = (checks.error_number (errors.Certificate e), place_seen (checks.error_place (errors.Certificate e)), h)
@@ -71,6 +75,8 @@ text_of (ExplainCheck k c p wide r) t saved text h =
     let kernel = text_under r t.conditions t.kernel in
     begun (IsRefusedText wide kernel t.conditions t.certificate) (λ line refusal. alone line (check_line wide kernel t.conditions t.certificate line refusal)) text h
 text_of (Print k) t saved text h = alone text (print_line t.kernel text h)
+text_of (Show k c r) t saved text h = alone text (show_line (text_under r t.conditions t.kernel) text h)
+text_of (ShowAlone k r) t saved text h = alone text (show_line (text_for r t.kernel) text h)
 text_of (Migrate o n) t saved text h = alone text (migrate_line t.certificate text h.0)
 
 -- what a verdict tells fulfils the request, or refuses it
@@ -82,6 +88,8 @@ fulfils text (Prove k c workers out wide r) t saved h = h
 fulfils text (Explain k c wide r) t saved h = h
 fulfils text (ExplainCheck k c p wide r) t saved h = h
 fulfils text (Print k) t saved h = h
+fulfils text (Show k c r) t saved h = h
+fulfils text (ShowAlone k r) t saved h = h
 fulfils text (Migrate o n) t saved h = h
 
 refuses : (line : String Global) (r : Request) (t : Texts) (saved : Option Write) → IsAnsweredBy (verdicts.Refused line) r t saved → Refuses r t saved (string_bytes line)
@@ -92,6 +100,8 @@ refuses line (Prove k c workers out wide r) t saved h = h
 refuses line (Explain k c wide r) t saved h = h
 refuses line (ExplainCheck k c p wide r) t saved h = h
 refuses line (Print k) t saved h = h
+refuses line (Show k c r) t saved h = h
+refuses line (ShowAlone k r) t saved h = h
 refuses line (Migrate o n) t saved h = h
 
 module _ (given : List Read → Option Write → Type 0) (ws : List (List ℕ)) (old new : Option (List ℕ)) (status : ℕ) where

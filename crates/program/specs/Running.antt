@@ -1,5 +1,5 @@
 -- What a run of the program reads and writes.
-use Rattle.std.specs.Prelude.{◌≡◌, ◌≢◌, ◌+◌, ◌++◌, ◌⊎◌, ℕ, List, [], ◌∷◌, Bool, false, Option, Some, None, IfSome, slice_get, take, codes}
+use Rattle.std.specs.Prelude.{◌≡◌, ◌≢◌, ◌+◌, ◌++◌, ◌⊎◌, ℕ, List, [], ◌∷◌, Bool, true, false, Option, Some, None, IfSome, slice_get, take, codes}
 use Rattle.std.specs.Io.KnownBytes.{Appends, Keeps}
 use Rattle.semantics.specs.Launch.{Launch, Fits}
 use Rattle.semantics.specs.Conditions.{Conditions, Meets}
@@ -8,8 +8,9 @@ use Rattle.telling.specs.Telling.{AreSafeTexts, IsAcceptedText, IsResultText, Is
 use Rattle.telling.specs.Proving.{no_launch_line}
 use Rattle.telling.specs.ProvingVerdicts.{Begins}
 use Rattle.telling.specs.Migrating.{IsMigrated}
+use Rattle.telling.specs.Showing.{IsShownText}
 use Rattle.telling.specs.Refusals.{IsRefusalLine}
-use Rattle.command_line.specs.Words.{operands, has_wide, HasWord, AsksWorkers, AsksReading, saved_as}
+use Rattle.command_line.specs.Words.{operands, has_wide, has_opencl, HasWord, AsksWorkers, AsksReading, saved_as}
 use Rattle.program.specs.First.{first_kernel, first_conditions}
 
 -- a read of a file: its name, the limit of its text, and the bytes that it gave
@@ -75,9 +76,9 @@ certificate_read name bytes = record { name = name; limit = 16777216; bytes = by
 abbrev pub launch_read : (name bytes : List ℕ) → Read
 launch_read name bytes = record { name = name; limit = 4194304; bytes = bytes }
 
--- what the words ask of it: a check of the texts that stand in the program, or a check, a run, a search, an explanation, a canonical text
--- or a certificate in version 2 of files, each by its name; by the wide check or search, or by the one that is not; of a kernel that is
--- read in this way
+-- what the words ask of it: a check of the texts that stand in the program, or a check, a run, a search, an explanation, a canonical text,
+-- a text that shows what was made of a kernel, under conditions or alone, or a certificate in version 2 of files, each by its name; by the
+-- wide check or search, or by the one that is not; of a kernel that is read in this way
 pub data Request : Type 0 where
   CheckOwn : Request
   Check : (kernel conditions certificate : List ℕ) (is_wide : Bool) (reading : Reading) → Request
@@ -86,6 +87,8 @@ pub data Request : Type 0 where
   Explain : (kernel conditions : List ℕ) (is_wide : Bool) (reading : Reading) → Request
   ExplainCheck : (kernel conditions certificate : List ℕ) (is_wide : Bool) (reading : Reading) → Request
   Print : (kernel : List ℕ) → Request
+  Show : (kernel conditions : List ℕ) (reading : Reading) → Request
+  ShowAlone : (kernel : List ℕ) (reading : Reading) → Request
   Migrate : (old new : List ℕ) → Request
 
 -- there is no n-th word that is no option, from 0
@@ -103,7 +106,9 @@ Asks ws (Prove k c workers out wide r) =
 Asks ws (Explain k c wide r) = HasWord ws 0 (codes "explain") × HasWord ws 1 k × HasWord ws 2 c × HasNoWord ws 3 × (wide ≡ has_wide ws) × AsksReading ws r
 Asks ws (ExplainCheck k c p wide r) =
     HasWord ws 0 (codes "explain") × HasWord ws 1 k × HasWord ws 2 c × HasWord ws 3 p × (wide ≡ has_wide ws) × AsksReading ws r
-Asks ws (Print k) = HasWord ws 0 (codes "print") × HasWord ws 1 k
+Asks ws (Print k) = HasWord ws 0 (codes "print") × HasWord ws 1 k × (has_opencl ws ≡ false)
+Asks ws (Show k c r) = HasWord ws 0 (codes "print") × HasWord ws 1 k × HasWord ws 2 c × (has_opencl ws ≡ true) × AsksReading ws r
+Asks ws (ShowAlone k r) = HasWord ws 0 (codes "print") × HasWord ws 1 k × HasNoWord ws 2 × (has_opencl ws ≡ true) × AsksReading ws r
 Asks ws (Migrate o n) = HasWord ws 0 (codes "migrate") × HasWord ws 1 o × HasWord ws 2 n
 
 -- what was read of files; a text that the request does not name is any
@@ -122,6 +127,8 @@ reads (Prove k c workers out wide r) t = kernel_read (limit_by r) k t.kernel ∷
 reads (Explain k c wide r) t = kernel_read (limit_by r) k t.kernel ∷ conditions_read c t.conditions ∷ []
 reads (ExplainCheck k c p wide r) t = kernel_read (limit_by r) k t.kernel ∷ conditions_read c t.conditions ∷ certificate_read p t.certificate ∷ []
 reads (Print k) t = kernel_read plain_limit k t.kernel ∷ []
+reads (Show k c r) t = kernel_read (limit_by r) k t.kernel ∷ conditions_read c t.conditions ∷ []
+reads (ShowAlone k r) t = kernel_read (limit_by r) k t.kernel ∷ []
 reads (Migrate o n) t = certificate_read o t.certificate ∷ []
 
 -- a search may write a file, and so may `migrate`
@@ -133,6 +140,8 @@ MayWrite (Prove k c workers out wide r) saved = Unit {0}
 MayWrite (Explain k c wide r) saved = saved ≡ None
 MayWrite (ExplainCheck k c p wide r) saved = saved ≡ None
 MayWrite (Print k) saved = saved ≡ None
+MayWrite (Show k c r) saved = saved ≡ None
+MayWrite (ShowAlone k r) saved = saved ≡ None
 MayWrite (Migrate o n) saved = Unit {0}
 
 -- the words ask for a request, its reads were made, and a text was written behind them where there is one (`given`), and this is told of it
@@ -164,8 +173,8 @@ IsSought proof is_wide kernel conditions written = IsSafeText is_wide kernel con
 abbrev pub IsMoved : (name old written : List ℕ) → Option Write → Type 0
 IsMoved name old written saved = (new : List ℕ) × IsMigrated old new written × (saved ≡ saving (Some name) new)
 
--- what fulfils a request: `accepted`, the buffers of a launch, a canonical text, or `migrated`; where an answer is explained, it begins the
--- text
+-- what fulfils a request: `accepted`, the buffers of a launch, a canonical text, a text that shows a kernel, or `migrated`; where an answer
+-- is explained, it begins the text
 abbrev pub Fulfils : (proof : (is_wide : Bool) (kernel : Source) (conditions certificate written : List ℕ) → Type 0) → Request → Texts → Option Write → (written : List ℕ) → Type 0
 Fulfils proof CheckOwn t saved written = IsAcceptedText false (text_for narrow first_kernel) first_conditions written
 Fulfils proof (Check k c p wide r) t saved written = IsAcceptedText wide (text_under r t.conditions t.kernel) t.conditions written
@@ -174,6 +183,8 @@ Fulfils proof (Prove k c workers out wide r) t saved written = IsFound proof wid
 Fulfils proof (Explain k c wide r) t saved written = Begins (IsSought proof wide (text_under r t.conditions t.kernel) t.conditions) written
 Fulfils proof (ExplainCheck k c p wide r) t saved written = Begins (IsAcceptedText wide (text_under r t.conditions t.kernel) t.conditions) written
 Fulfils proof (Print k) t saved written = IsPrintedText t.kernel written
+Fulfils proof (Show k c r) t saved written = IsShownText (text_under r t.conditions t.kernel) written
+Fulfils proof (ShowAlone k r) t saved written = IsShownText (text_for r t.kernel) written
 Fulfils proof (Migrate o n) t saved written = IsMoved n t.certificate written saved
 
 abbrev pub Success : (given : List Read → Option Write → Type 0) (proof : (is_wide : Bool) (kernel : Source) (conditions certificate written : List ℕ) → Type 0) (ws : List (List ℕ)) (written : List ℕ) → Type 0

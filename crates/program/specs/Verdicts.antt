@@ -9,8 +9,9 @@ use Rattle.telling.specs.declared.Verdict.{Verdict}
 use Rattle.telling.specs.declared.Verdict.TheVariants as verdicts
 use Rattle.telling.specs.ProvingVerdicts.{Begins, ExplainsCheck}
 use Rattle.telling.specs.Migrating.{IsMigrated, IsUnmigrated}
+use Rattle.telling.specs.Showing.{Shows}
 use Rattle.program.specs.First.{first_kernel, first_conditions, first_certificate}
-use Rattle.program.specs.Running.{Read, Write, Request, CheckOwn, Check, Run, Prove, Explain, ExplainCheck, Print, Migrate, Texts, Answered, Saves, saving, IsFound, IsSought, IsMoved}
+use Rattle.program.specs.Running.{Read, Write, Request, CheckOwn, Check, Run, Prove, Explain, ExplainCheck, Print, Show, ShowAlone, Migrate, Texts, Answered, Saves, saving, IsFound, IsSought, IsMoved}
 
 -- of a search: what was found is in the file that the words name, if they name one; a refusal writes none
 abbrev pub Finds : (out : Option (List ℕ)) → Verdict → (is_wide : Bool) → (workers : ℕ) → (kernel : Source) (conditions : List ℕ) → Option Write → Type 0
@@ -51,6 +52,8 @@ IsAnsweredBy v (Prove k c workers out wide r) t saved = Finds out v wide workers
 IsAnsweredBy v (Explain k c wide r) t saved = Explained wide v (text_under r t.conditions t.kernel) t.conditions
 IsAnsweredBy v (ExplainCheck k c p wide r) t saved = ExplainsCheck wide v (text_under r t.conditions t.kernel) t.conditions t.certificate
 IsAnsweredBy v (Print k) t saved = Prints v t.kernel
+IsAnsweredBy v (Show k c r) t saved = Shows v (text_under r t.conditions t.kernel)
+IsAnsweredBy v (ShowAlone k r) t saved = Shows v (text_for r t.kernel)
 IsAnsweredBy v (Migrate o n) t saved = Moves n v t.certificate saved
 
 abbrev pub Tells : (given : List Read → Option Write → Type 0) (ws : List (List ℕ)) → Verdict → Type 0

@@ -1,6 +1,6 @@
 //! One run of the program over files and writers.
 
-ghost use Rattle.std.specs.Prelude.{◌≡◌, ◌≢◌, ℕ, List, [], ◌∷◌, Bool, false, IfOk, OnOk, codes};
+ghost use Rattle.std.specs.Prelude.{◌≡◌, ◌≢◌, ℕ, List, [], ◌∷◌, Bool, true, false, IfOk, OnOk, codes};
 ghost use Rattle.std.specs.Option.{option_map};
 ghost use Rattle.kernel_reading.specs.Kernels as kernels;
 ghost use Rattle.kernel_reading.specs.Kernels.{text_for, text_under};
@@ -9,7 +9,7 @@ ghost use Rattle.telling.specs.Verdicts.{Checks};
 ghost use Rattle.telling.specs.Proving.{IsProvedText};
 ghost use Rattle.telling.specs.ProvingVerdicts.{Proves};
 ghost use Rattle.telling.specs.Migrating.{Migrates};
-ghost use Rattle.command_line.specs.Words.{texts, has_wide, HasWord, HasNames, AsksWorkers, AsksReading, HasSearch, HasSubject};
+ghost use Rattle.command_line.specs.Words.{texts, has_wide, has_opencl, HasWord, HasNames, AsksWorkers, AsksReading, HasSearch, HasShowing, HasSubject};
 ghost use Rattle.program.specs.First.{first_kernel, first_conditions, first_certificate};
 ghost use Rattle.program.specs.Running.{IsOf, Reads, Does, IsPut, Saves, saving, limit_in, limit_by, kernel_read, conditions_read, certificate_read, HasNoWord, Success, IsOut, Output};
 ghost use Rattle.program.specs.Refusing.{Refusal};
@@ -18,7 +18,7 @@ ghost use Rattle.program.specs.Verdicts.{Tells, Kept, Moved, IsTold, IsWritten, 
 use crate::files::{FileFault, Files};
 use crate::first::first_texts;
 use crate::writing::is_written;
-use command_line::{Line, Names, Search, Subject, read_line};
+use command_line::{Line, Names, Search, Showing, Subject, read_line};
 use kernel_reading::{Language, Reading, Source};
 use std::alloc::Global;
 use std::io::Write;
@@ -26,7 +26,7 @@ use std::sync::Wait;
 use std::thread::Threads;
 use telling::{
     Effort, Sought, Texts, Unwatched, Verdict, Watcher, check_texts, explain_check, explain_texts,
-    migrate_text, print_text, prove_texts, run_texts,
+    migrate_text, print_text, prove_texts, run_texts, show_text,
 };
 
 /// The line on the standard error where words are no command line.
@@ -309,11 +309,71 @@ fn explained<'a, R: Threads + Wait + Sync, F: Files, W: Watcher>(
 
 /// The canonical text of a file's kernel.
 fn printed<'a, F: Files>(alloc: Global, kernel: &'a str, files: &mut F) -> Result<Verdict, Stop<'a>>
-    ensures verdict { (ws : List (List ℕ)) → HasWord ws 0 (codes "print") → HasWord ws 1 kernel.now → IfOk result (λ v. Tells (Does F.contents F.gives files.old files.new) ws v) }
+    ensures verdict { (ws : List (List ℕ)) → HasWord ws 0 (codes "print") → HasWord ws 1 kernel.now → has_opencl ws ≡ false → IfOk result (λ v. Tells (Does F.contents F.gives files.old files.new) ws v) }
     ensures same { (n : List ℕ) → F.contents files.new n ≡ F.contents files.old n }
 {
     let text = text_of(files, kernel, PLAIN_LIMIT)?;
     Ok(print_text(alloc, &text))
+}
+
+/// What is shown of a file's kernel under the head of the conditions of another one.
+fn shown_under<'a, F: Files>(
+    alloc: Global,
+    kernel: &'a str,
+    conditions: &'a str,
+    reading: Reading,
+    files: &mut F,
+) -> Result<Verdict, Stop<'a>>
+    ensures verdict { (ws : List (List ℕ)) → HasWord ws 0 (codes "print") → HasWord ws 1 kernel.now → HasWord ws 2 conditions.now → has_opencl ws ≡ true → AsksReading ws (reading_seen reading) → IfOk result (λ v. Tells (Does F.contents F.gives files.old files.new) ws v) }
+    ensures same { (n : List ℕ) → F.contents files.new n ≡ F.contents files.old n }
+{
+    let bytes = text_of(files, kernel, kernel_limit(reading.language))?;
+    let said = text_of(files, conditions, 65_536)?;
+    let text = Source {
+        reading,
+        conditions: &said,
+        bytes: &bytes,
+    };
+    Ok(show_text(alloc, text))
+}
+
+/// What is shown of a file's kernel.
+fn shown_alone<'a, F: Files>(
+    alloc: Global,
+    kernel: &'a str,
+    reading: Reading,
+    files: &mut F,
+) -> Result<Verdict, Stop<'a>>
+    ensures verdict { (ws : List (List ℕ)) → HasWord ws 0 (codes "print") → HasWord ws 1 kernel.now → HasNoWord ws 2 → has_opencl ws ≡ true → AsksReading ws (reading_seen reading) → IfOk result (λ v. Tells (Does F.contents F.gives files.old files.new) ws v) }
+    ensures same { (n : List ℕ) → F.contents files.new n ≡ F.contents files.old n }
+{
+    let bytes = text_of(files, kernel, kernel_limit(reading.language))?;
+    let text = Source {
+        reading,
+        conditions: &[],
+        bytes: &bytes,
+    };
+    Ok(show_text(alloc, text))
+}
+
+/// The verdict of `print` on files of OpenCL C.
+fn shown<'a, F: Files>(
+    alloc: Global,
+    showing: Showing<'a>,
+    files: &mut F,
+) -> Result<Verdict, Stop<'a>>
+    ensures verdict { (ws : List (List ℕ)) → HasWord ws 0 (codes "print") → HasShowing ws showing.entry → IfOk result (λ v. Tells (Does F.contents F.gives files.old files.new) ws v) }
+    ensures same { (n : List ℕ) → F.contents files.new n ≡ F.contents files.old n }
+{
+    let Showing {
+        kernel,
+        conditions,
+        reading,
+    } = showing;
+    match conditions {
+        Some(conditions) => shown_under(alloc, kernel, conditions, reading, files),
+        None => shown_alone(alloc, kernel, reading, files),
+    }
 }
 
 /// Reads a certificate of version 1 from a file, and writes it in version 2 to another one.
@@ -355,6 +415,7 @@ fn verdict_of<'a, R: Threads + Wait + Sync, F: Files, W: Watcher>(
         Ok(Line::Prove(search)) => proved(rt, alloc, search, files, watcher),
         Ok(Line::Explain(subject)) => explained(rt, alloc, subject, files, watcher),
         Ok(Line::Print(kernel)) => printed(alloc, kernel, files),
+        Ok(Line::Show(showing)) => shown(alloc, showing, files),
         Ok(Line::Migrate { old, new }) => migrated(alloc, old, new, files),
         Ok(Line::Usage) => Err(Stop::Usage),
         Err(_) => Err(Stop::Memory),

@@ -7,7 +7,7 @@ use diagnostics::Finding;
 use std::fmt;
 use thiserror::Error;
 
-/// Why a kernel is not proved, or want of memory.
+/// The reasons for which a kernel is not proved, and want of memory.
 #[derive(Drop, Error)]
 pub enum VerifyError {
     /// The refusal by the check, of the kernel or its conditions, or of all certificates that were tried.

@@ -21,7 +21,7 @@ ghost use Rattle.proof_search.specs.declared.error.VerifyError.TheVariants as er
 
 use crate::error::VerifyError;
 use crate::shortfall::findings_of;
-use crate::widening::{is_over, may_widen};
+use crate::widening::{is_long, is_over, may_widen};
 use cert_check::error::{CheckError, ShowError};
 use certificate::{Certificate, LIMIT, write, write_wide};
 use certificate_search::{Missing, SearchError, Unwatched, Watcher, search};
@@ -239,16 +239,34 @@ fn found_widely<R: Threads + Sync, W: Watcher>(
     }
 }
 
-/// The wide walk may show what was not shown, or keep within the budget that a certificate passes.
+/// The wide walk may show what was not shown, keep within the budget that a certificate passes, or find a shorter one in place of a long
+/// one.
 fn is_open(alloc: Global, subject: &Subject<'_>, narrow: &Result<Found, VerifyError>) -> bool {
     match narrow {
-        Ok(found) => is_over(alloc, subject, &found.certificate),
+        Ok(found) => is_long(&found.text) || is_over(alloc, subject, &found.certificate),
         Err(error) => may_widen(error),
     }
 }
 
-/// The certificate that the narrow walk finds, with its text; or, where that is not enough, the one that the wide walk finds. Where both
-/// fail, what the narrow walk comes to. Where the narrow walk finds none, the other one's may pass the budget, which alone is short then.
+/// The wide walk found a certificate, which is the only one that keeps within the budget, or the shorter one.
+fn is_better(
+    alloc: Global,
+    subject: &Subject<'_>,
+    narrow: &Result<Found, VerifyError>,
+    wide: &Option<Found>,
+) -> bool {
+    match (narrow, wide) {
+        (_, None) => false,
+        (Err(_), Some(_)) => true,
+        (Ok(narrow), Some(wide)) => {
+            wide.text.len() < narrow.text.len() || is_over(alloc, subject, &narrow.certificate)
+        }
+    }
+}
+
+/// The certificate that the narrow walk finds, with its text; or, where that is not enough or long, the one that the wide walk finds. Where
+/// both fail, what the narrow walk comes to. Where the narrow walk finds none, the other one's may pass the budget, which alone is short
+/// then.
 fn found_by_either<R: Threads + Sync, W: Watcher>(
     rt: &R,
     alloc: Global,
@@ -265,13 +283,18 @@ fn found_by_either<R: Threads + Sync, W: Watcher>(
     if !is_open(alloc, &subject, &narrow) {
         return narrow;
     }
-    match found_widely(rt, alloc, subject, workers, watcher, narrow.is_err()) {
+    let wide = found_widely(rt, alloc, subject, workers, watcher, narrow.is_err());
+    if !is_better(alloc, &subject, &narrow, &wide) {
+        return narrow;
+    }
+    match wide {
         Some(found) => Ok(found),
         None => narrow,
     }
 }
 
-/// How a search is made: by so many workers, whether conditions of version 2 are read, and whether the wide walk may be tried.
+/// The effort of a search: its number of workers, whether conditions of version 2 are read, and whether the wide walk
+/// may be tried.
 #[derive(Clone, Copy)]
 pub struct Effort {
     pub workers: u32,
@@ -313,9 +336,10 @@ fn searched<R: Threads + Sync, W: Watcher>(
     }
 }
 
-/// A certificate with its text for a kernel and launch conditions, each by its text, with so much effort: as by `find`, or also under
-/// conditions of version 2, by the narrow walk or by both. Where both fail, the answer is what the narrow one comes to; a text is of version
-/// 4 where the wide one found it. Whoever watches is told how far the search is, and what is found does not depend on it.
+/// A certificate with its text for a kernel and launch conditions, each by its text, with so much effort: as by `find`,
+/// or also under conditions of version 2, by the narrow walk or by both. Where both fail, the answer is what the narrow
+/// one comes to; a text is of version 4 where the wide one found it. Whoever watches is told how far the search is, and
+/// what is found does not depend on it.
 pub fn find_watched<R: Threads + Sync, W: Watcher>(
     rt: &R,
     alloc: Global,

@@ -25,7 +25,8 @@ const OBLIGATIONS: usize = 32;
 
 const FINDINGS: usize = 16;
 
-/// What a search leaves: nothing where it finds a certificate; whether that is all of it, and whether the certificate passes the budget.
+/// The findings that a search leaves, none where it finds a certificate; whether these are all, and whether the
+/// certificate passes the budget.
 #[derive(Drop)]
 pub struct Left {
     pub findings: Vec<Finding>,
@@ -36,7 +37,7 @@ pub struct Left {
 /// The number of want of memory.
 const MEMORY: u8 = 90;
 
-/// What obligations that are not shown leave; none where they leave no findings.
+/// The findings of obligations that are not shown; none where they have no findings.
 fn left_of(alloc: Global, typed: &Typed, missing: &[Missing]) -> Result<Option<Left>, AllocError> {
     let findings = suspects_of(alloc, typed, missing)?;
     if findings.is_empty() {
@@ -59,7 +60,7 @@ fn nothing(number: u8) -> Result<Option<Left>, AllocError> {
     }
 }
 
-/// What a search leaves that finds no certificate.
+/// The findings that a search leaves where it finds no certificate.
 fn left_by_error(
     alloc: Global,
     typed: &Typed,
@@ -72,7 +73,7 @@ fn left_by_error(
     }
 }
 
-/// What a search leaves of a kernel under conditions.
+/// The findings that a search of a kernel under conditions leaves.
 fn left_under<R: Threads + Sync, W: Watcher>(
     rt: &R,
     alloc: Global,
@@ -105,8 +106,9 @@ fn left_under<R: Threads + Sync, W: Watcher>(
     }
 }
 
-/// What one search, of the wide walk or of the narrow one, leaves of a kernel under conditions, each by its text, with one worker:
-/// possible findings, or nothing where there is a certificate. None where the texts are refused, or the search comes to something else.
+/// Searches with one worker, by the wide walk or the narrow one, for a kernel under conditions, each by its text. The
+/// answer is possible findings, or no finding where there is a certificate. It is none where the texts are refused, or
+/// the search comes to something else.
 pub fn left_by<R: Threads + Sync, W: Watcher>(
     rt: &R,
     alloc: Global,

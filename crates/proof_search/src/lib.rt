@@ -2,7 +2,7 @@
 //! `diagnostics`.
 //!
 //! The bytes of a kernel and of its conditions to a certificate with its text, which nothing believes until it is checked, or to what is
-//! not shown; by the narrow walk, or, where that shows too little, by the wide one.
+//! not shown; by the narrow walk, or, where that shows too little or finds a long certificate, by the wide one.
 #![tactic(auto)]
 
 mod error;

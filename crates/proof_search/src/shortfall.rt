@@ -23,7 +23,7 @@ use std::alloc::{AllocError, Global};
 use typed_kernels::Typed;
 use words::{Fault, Kind};
 
-/// How many findings are told at most.
+/// The most findings that are told.
 const MOST: usize = 16;
 
 /// The kind of finding that an obligation of this sort leaves where it is not shown. None of those that a safe kernel may fail: that a

@@ -8,6 +8,14 @@ use guess_walk::Subject;
 use loop_bounds::cost;
 use std::alloc::Global;
 
+/// A certificate of more bytes is a long one.
+const LONG: usize = 16_384;
+
+/// A certificate's text is so long that another walk may find a shorter one.
+pub fn is_long(text: &[u8]) -> bool {
+    text.len() > LONG
+}
+
 /// With a certificate, an item may take more steps than the budget.
 pub fn is_over(alloc: Global, subject: &Subject<'_>, certificate: &Certificate) -> bool {
     let notes = match notes_of(alloc, subject.typed, subject.places, certificate) {

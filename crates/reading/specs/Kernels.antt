@@ -1,5 +1,5 @@
--- What the bytes of a kernel's text say where it is read for some devices: its tree, its core and its map of names, or the first fault with its place: of the
--- text, else of the tree, else of its types.
+-- What the bytes of a kernel's text say where it is read for some devices: its tree, its core and its map of names, or the first
+-- fault with its place: of the text, else of the tree, else of its types.
 use Rattle.std.specs.Prelude.{ℕ, List, Result, Ok, Err}
 use Rattle.semantics.specs.Launch as launch
 use Rattle.semantics.specs.Core.{Site}

@@ -8,7 +8,8 @@ use Rattle.types.specs.Elaboration.{elaborate}
 use Rattle.kernel_names.specs.NameMap.{names_of}
 use Rattle.reading.specs.Kernels.{Kernel, Source}
 
--- the tokens of the bytes are those of the tree, with at most 64 brackets open at once; the tree is within the limits, and has the core and the names
+-- the tokens of the bytes are those of the tree, with at most 64 brackets open at once; the tree is within the limits,
+-- and has the core and the names
 pub record IsTextOf (s : Source) (k : Kernel) : Type 0 where
   pub tokens : List Token
   pub are_tokens : tokens_of s.bytes ≡ Ok tokens

@@ -21,7 +21,7 @@ use types::typed::TypedTree;
 
 pub mod laws;
 
-/// Why a text is no kernel: the first fault of the first part that refuses it, or want of memory.
+/// The reasons for which a text is no kernel: the first fault of the first part that refuses it, or want of memory.
 #[derive(Debug, Drop, Error)]
 pub enum KernelError {
     #[error("{0}")]

@@ -13,7 +13,8 @@ pub fn reckoned_terms_heed_no_machine()
     ensures { (m n : Machine) (s : Setup) (i : ℕ) (now then : List ℕ) (e : Term) (variables answers : List Word) → is_reckoned_term e ≡ true → evaluate (with_machine m s) i now e variables answers ≡ evaluate (with_machine n s) i then e variables answers }
 {}
 
-/// Shifts by a term, by example: the count is modulo 32, bits that leave on the left are lost, and a negative number stays one to the right.
+/// Shifts by a term, by example: the count is modulo 32, bits that leave on the left are lost, and a negative number
+/// stays one to the right.
 pub fn shifts_go_by_five_bits()
     ensures whole { count_of (pos 32) ≡ 0 }
     ensures negative { count_of (negsuc 0) ≡ 31 }

@@ -39,7 +39,7 @@ fn number_of(sum: Difference) -> i64 {
     }
 }
 
-/// What is left of a span by one line; the same where nothing would be left.
+/// A span, cut by one line; the same where nothing would be left.
 fn narrowed(span: Span, is_upper: bool, limit: i64) -> Span {
     let next = if is_upper {
         Span {
@@ -55,7 +55,7 @@ fn narrowed(span: Span, is_upper: bool, limit: i64) -> Span {
     if next.low <= next.high { next } else { span }
 }
 
-/// What a buffer of a kind may hold under a launch.
+/// The numbers that a buffer of a kind may hold under a launch.
 fn span_of(launch: &Launch, contents: &[Content], buffer: usize, kind: Kind) -> Span {
     let mut span = ends_of(kind);
     for content in contents {
@@ -70,7 +70,7 @@ fn span_of(launch: &Launch, contents: &[Content], buffer: usize, kind: Kind) -> 
     span
 }
 
-/// What each buffer may hold under a launch; nothing at all where no line speaks of one.
+/// The numbers that each buffer may hold under a launch; an empty list where there are no lines on contents.
 pub fn spans_of(
     alloc: Global,
     core: &Core,

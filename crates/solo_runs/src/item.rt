@@ -74,7 +74,7 @@ impl Item<'_> {
         self.slots.get(slot as usize).copied().unwrap_or(0)
     }
 
-    /// What an array may hold, where lines speak of that.
+    /// The numbers that an array may hold, where lines speak of that.
     fn span_of(&self, array: Array) -> Option<Span> {
         match array.space {
             Space::Global => self.spans.get(array.number as usize).copied(),

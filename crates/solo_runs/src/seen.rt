@@ -40,7 +40,7 @@ pub struct Test {
     pub slots: Vec<i64>,
 }
 
-/// How an item came to a barrier.
+/// An item's arrival at a barrier.
 #[derive(Drop)]
 pub struct Arrival {
     pub barrier: u32,

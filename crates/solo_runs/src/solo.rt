@@ -19,7 +19,7 @@ const TOGETHER: u32 = 400_000;
 /// later some states.
 const EARLY: u32 = 400;
 
-/// How a statement is left.
+/// The way in which a statement is left.
 #[derive(Clone, Copy)]
 pub enum Flow {
     Next,

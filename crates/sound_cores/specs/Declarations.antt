@@ -1,7 +1,9 @@
 -- What a kernel's statements name is declared: slots, buffers and local arrays, each by a number below how many there are.
 use Rattle.std.specs.Prelude.{ℕ, ◌+◌, ◌<◌, length}
 use Rattle.semantics.specs.Core as core
-use Rattle.semantics.specs.Core.{Space, Global, Local, Array, Term, Literal, Variable, Id, Load, Unary, Binary, Convert, Compare, Not, And, Or, Select, Minimum, Maximum, Shift, Opaque, Statement, Set, Store, If, Loop, Barrier, Return, Break, Continue, Statements, none, one}
+use Rattle.semantics.specs.Core.{Space, Global, Local, Array, Term, Literal, Variable, Id, Load, Unary, Binary, Convert, Compare}
+use Rattle.semantics.specs.Core.{Not, And, Or, Select, Minimum, Maximum, Shift, Opaque, Statement, Set, Store, If, Loop, Barrier}
+use Rattle.semantics.specs.Core.{Return, Break, Continue, Statements, none, one}
 use Rattle.semantics.specs.Launch.{Kernel}
 
 -- how many of each there are

@@ -43,7 +43,8 @@ OutOf Update (Unset n) end = end ≡ Unset n
 abbrev pub Turns : (number : ℕ) (is_read always : Bool) (Body Update : Bool → End → Type 0) → ℕ → Bool → End → Type 0
 Turns n is_read always Body Update zero set end = ReadsUnset n is_read set end ⊎ ((always ≡ false) × (end ≡ Behind set))
 Turns n is_read always Body Update (suc k) set end =
-    (b : End) × Body set b × OutOf (λ s out. (u : End) × Update s u × Again (λ t last. Turns n is_read always Body Update k t last) u out) b end
+    (b : End) × Body set b
+    × OutOf (λ s out. (u : End) × Update s u × Again (λ t last. Turns n is_read always Body Update k t last) u out) b end
 
 abbrev mutual
   pub Goes : (x : ℕ) → (set : Bool) → Statement → End → Type 0

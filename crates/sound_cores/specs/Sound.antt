@@ -5,7 +5,9 @@ use Rattle.std.specs.Prelude.{ℕ, ◌+◌, Bool, true, false, ◌&&◌, nat_lt,
 use Rattle.semantics.specs.Word as word
 use Rattle.semantics.specs.Word.{Kind}
 use Rattle.semantics.specs.Core as core
-use Rattle.semantics.specs.Core.{Space, Global, Local, Array, Term, Literal, Variable, Id, Load, Unary, Binary, Convert, Compare, Not, And, Or, Select, Minimum, Maximum, Shift, Opaque, Statement, Set, Store, If, Loop, Barrier, Return, Break, Continue, Statements, none, one}
+use Rattle.semantics.specs.Core.{Space, Global, Local, Array, Term, Literal, Variable, Id, Load, Unary, Binary, Convert, Compare}
+use Rattle.semantics.specs.Core.{Not, And, Or, Select, Minimum, Maximum, Shift, Opaque, Statement, Set, Store, If, Loop, Barrier}
+use Rattle.semantics.specs.Core.{Return, Break, Continue, Statements, none, one}
 use Rattle.semantics.specs.Launch.{Kernel}
 use Rattle.work_item.specs.Proper.{is_proper}
 use Rattle.sound_cores.specs.Declarations.{Declared, declared_by}

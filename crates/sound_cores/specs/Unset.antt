@@ -1,9 +1,12 @@
 -- Variables that may be read before they are set: the value of a variable that was not set is indeterminate (C99 6.7.8p10), so a core in
 -- which this may be is of no use. It is said of one slot at a time. A path may take either part of an `if`, go round a loop as often as it
 -- likes, and leave it at its test or at a `break`; every part of a term counts as read. Loops are left as `is_placed` says.
-use Rattle.std.specs.Prelude.{ℕ, zero, suc, ◌+◌, Bool, true, false, ◌&&◌, ◌||◌, nat_eq, min, cond, not, ℤ, pos, negsuc, length, Option, Some, None}
+use Rattle.std.specs.Prelude.{ℕ, zero, suc, ◌+◌, Bool, true, false, ◌&&◌, ◌||◌, nat_eq, min, cond, not, ℤ, pos, negsuc, length}
+use Rattle.std.specs.Prelude.{Option, Some, None}
 use Rattle.semantics.specs.Core as core
-use Rattle.semantics.specs.Core.{Term, Literal, Variable, Id, Load, Unary, Binary, Convert, Compare, Not, And, Or, Select, Minimum, Maximum, Shift, Opaque, Statement, Set, Store, If, Loop, Barrier, Return, Break, Continue, Statements, none, one}
+use Rattle.semantics.specs.Core.{Term, Literal, Variable, Id, Load, Unary, Binary, Convert, Compare, Not, And, Or, Select}
+use Rattle.semantics.specs.Core.{Minimum, Maximum, Shift, Opaque, Statement, Set, Store, If, Loop, Barrier, Return, Break}
+use Rattle.semantics.specs.Core.{Continue, Statements, none, one}
 use Rattle.semantics.specs.Launch.{Kernel}
 
 -- the term names the variable of slot x
@@ -74,7 +77,12 @@ steps unset after = record { unset = unset; after = after; broken = true; contin
 
 -- one after another: the second begins as the first ends
 abbrev pub follows : Ways → Ways → Ways
-follows a b = record { unset = earlier a.unset b.unset; after = b.after; broken = a.broken && b.broken; continued = a.continued && b.continued }
+follows a b = record {
+  unset = earlier a.unset b.unset;
+  after = b.after;
+  broken = a.broken && b.broken;
+  continued = a.continued && b.continued;
+}
 
 -- one or the other, behind a test
 abbrev pub either : (test : Option ℕ) → Ways → Ways → Ways
@@ -92,7 +100,8 @@ abbrev mutual
   ways x set (Store n a site k e) = steps (unset_at n (reads x k || reads x e) set) set
   ways x set (If n e taken skipped) = either (unset_at n (reads x e) set) (all_ways x set taken) (all_ways x set skipped)
   ways x set (Loop n e body update) =
-      turns (unset_at n (reads x e) set) (is_always e) set (all_ways x set body) (all_ways x ((all_ways x set body).after && (all_ways x set body).continued) update)
+      turns (unset_at n (reads x e) set) (is_always e) set (all_ways x set body)
+      (all_ways x ((all_ways x set body).after && (all_ways x set body).continued) update)
   ways x set (Barrier n l g) = steps None set
   ways x set (Return n) = steps None true
   ways x set (Break n loop) = record { unset = None; after = true; broken = set; continued = true }

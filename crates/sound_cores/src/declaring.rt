@@ -1,7 +1,8 @@
 //! Whether statements name what is declared, and no size is one that is not reckoned.
 
 ghost use Rattle.std.specs.Prelude.{◌≡◌, ◌&&◌};
-ghost use Rattle.core_code.specs.View.{array as array_seen, term as term_seen, statement as statement_seen, statements as statements_seen, kernel as kernel_seen};
+ghost use Rattle.core_code.specs.View.{array as array_seen, term as term_seen, statement as statement_seen};
+ghost use Rattle.core_code.specs.View.{statements as statements_seen, kernel as kernel_seen};
 ghost use Rattle.sound_cores.specs.Declarations.{declared_by as declared_by_seen};
 ghost use Rattle.sound_cores.specs.Sound as specs;
 ghost use Rattle.sound_cores.specs.View.{declared};
@@ -10,7 +11,7 @@ ghost use Rattle.words.specs.View.{kind as kind_seen};
 use core_code::tree::{Array, Core, Space, Statement, Term};
 use words::Kind;
 
-/// How many slots, buffers and local arrays a kernel declares.
+/// The numbers of slots, buffers and local arrays that a kernel declares.
 #[derive(Clone, Copy)]
 pub struct Declared {
     pub slots: usize,
@@ -18,7 +19,7 @@ pub struct Declared {
     pub arrays: usize,
 }
 
-/// What a core declares.
+/// Counts the declarations of a core.
 pub fn declared_by(core: &Core) -> Declared
     ensures { declared result ≡ declared_by_seen (kernel_seen core.now) }
 {

@@ -59,15 +59,18 @@ pub fn what_is_sound_is_orderly()
 
 /// Each path that reads a private variable unset is found: the number that is found is the least of a statement at which one does so.
 pub fn each_path_that_reads_unset_is_found()
-    ensures { (k : Kernel) (i m : ℕ) → i < length k.variables → AllGo (length k.arguments + i) false k.body (Unset m) → (n : ℕ) × (first_unset k ≡ Some n) × (n ≤ m) }
+    ensures { (k : Kernel) (i m : ℕ) → i < length k.variables → AllGo (length k.arguments + i) false k.body (Unset m)
+        → (n : ℕ) × (first_unset k ≡ Some n) × (n ≤ m) }
 {}
 
 /// Where no statement is found that may read a private variable which is not set, no path through the core reads one unset.
 pub fn no_path_reads_what_is_not_set()
-    ensures { (k : Kernel) → first_unset k ≡ None → (i : ℕ) → i < length k.variables → (n : ℕ) → AllGo (length k.arguments + i) false k.body (Unset n) → ⊥ }
+    ensures { (k : Kernel) → first_unset k ≡ None → (i : ℕ) → i < length k.variables
+        → (n : ℕ) → AllGo (length k.arguments + i) false k.body (Unset n) → ⊥ }
 {}
 
 /// A statement that is found reads a private variable unset on some path: no core is refused without one.
 pub fn some_path_reads_what_is_not_set()
-    ensures { (k : Kernel) (n : ℕ) → first_unset k ≡ Some n → (i : ℕ) × (i < length k.variables) × AllGo (length k.arguments + i) false k.body (Unset n) }
+    ensures { (k : Kernel) (n : ℕ) → first_unset k ≡ Some n
+        → (i : ℕ) × (i < length k.variables) × AllGo (length k.arguments + i) false k.body (Unset n) }
 {}

@@ -1,7 +1,8 @@
 //! The first statement that may read a variable which is not set.
 
 ghost use Rattle.std.specs.Prelude.{◌≡◌, ◌&&◌};
-ghost use Rattle.core_code.specs.View.{term as term_seen, statement as statement_seen, statements as statements_seen, kernel as kernel_seen};
+ghost use Rattle.core_code.specs.View.{term as term_seen, statement as statement_seen, statements as statements_seen};
+ghost use Rattle.core_code.specs.View.{kernel as kernel_seen};
 ghost use Rattle.sound_cores.specs.Unset as specs;
 ghost use Rattle.sound_cores.specs.View.{ways as ways_seen};
 

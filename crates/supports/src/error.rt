@@ -5,7 +5,7 @@ ghost use Rattle.std.specs.Prelude.{◌≡◌};
 use std::alloc::{AllocError, AllocFailed};
 use thiserror::Error;
 
-/// Why a table of supports was not made.
+/// The reasons for which no table of supports is made.
 #[derive(Debug, Drop, Error)]
 pub enum SupportError {
     #[error("90")]

@@ -1,9 +1,9 @@
 //! Section: Answers. Promises that `accepted` is told only of what is, and of a refusal that what its findings confirm is true;
 //! stands on `cert_check`, `executor` and `verify`.
 //!
-//! What the program says of texts: it checks them, runs an accepted kernel, prints a kernel's canonical text, looks for a certificate, or
-//! writes one in version 2, and tells the answer or the refusal with its findings. What it says besides, where a refusal is explained,
-//! stands behind what is told.
+//! What the program says of texts: it checks them, runs an accepted kernel, prints a kernel's canonical text or shows what was made of it,
+//! looks for a certificate, or writes one in version 2, and tells the answer or the refusal with its findings. What it says besides, where a
+//! refusal is explained, stands behind what is told.
 #![tactic(auto)]
 
 ghost use Rattle.std.specs.Prelude.{◌≡◌};
@@ -18,6 +18,7 @@ mod explained;
 mod migrating;
 mod proving;
 mod refusal;
+mod showing;
 mod trying;
 
 use cert_check::check_as;
@@ -36,6 +37,7 @@ use printer::print;
 pub use proving::{Sought, prove_texts};
 use reading::{laws as tree_laws, read_kernel};
 pub use refusal::Refusal;
+pub use showing::show_text;
 use std::alloc::Global;
 use std::sync::Wait;
 use std::thread::Threads;

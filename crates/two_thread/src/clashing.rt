@@ -87,7 +87,7 @@ fn below_by_one(alloc: Global, left: &Form, right: &Form) -> Result<Form, WalkEr
     less_number(alloc, &between, 1)
 }
 
-/// How the two items' ids stand to one another.
+/// The fact that orders the ids of the two items in a dimension: one is below the other.
 fn order_fact(alloc: Global, crossing: Crossing) -> Result<Form, WalkError>
     ensures { MatchResult result (λ f. form_seen f ≡ pairs.order_fact (order_seen crossing.order) (symbols.once (pairs.id (scope_seen crossing.scope) symbols.First crossing.dimension)) (symbols.once (pairs.id (scope_seen crossing.scope) symbols.Second crossing.dimension))) IsMemory }
 {
@@ -100,7 +100,7 @@ fn order_fact(alloc: Global, crossing: Crossing) -> Result<Form, WalkError>
 }
 
 #[tactic(auto, using(facts::proofs::Facts::copies))]
-/// How the two items' ids stand to one another, too.
+/// Adds the fact that orders the ids of the two items.
 fn push_order(alloc: Global, facts: &mut Vec<Form>, crossing: Crossing) -> Result<(), WalkError>
     ensures { MatchResult result (λ _. forms facts.new.items ≡ forms facts.old.items ++ pairs.order_fact (order_seen crossing.order) (symbols.once (pairs.id (scope_seen crossing.scope) symbols.First crossing.dimension)) (symbols.once (pairs.id (scope_seen crossing.scope) symbols.Second crossing.dimension)) ∷ []) IsMemory }
 {

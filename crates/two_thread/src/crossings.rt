@@ -46,7 +46,7 @@ pub struct Crossing {
     pub alike: bool,
 }
 
-/// Whose pairs are looked for: an array, whether every barrier fences its space, and of which items.
+/// A class of pairs of accesses: their array, whether every barrier fences its space, and the items.
 #[derive(Clone, Copy)]
 pub struct Sought {
     pub space: Space,
@@ -55,7 +55,8 @@ pub struct Sought {
     pub scope: Scope,
 }
 
-/// What pairs are formed of, and under what: the local sizes, the conditions, and what was met; and how many pairs there may be at most.
+/// The input from which pairs are formed: the local sizes, the conditions, the accesses that were met, and the most
+/// pairs that there may be.
 #[derive(Drop)]
 pub struct Pairing<'a, D> {
     pub sizes: [u32; 3],

@@ -14,7 +14,7 @@ use launch::conditions::Conditions;
 use obligations::Notes;
 use std::alloc::{AllocError, Global};
 
-/// How many obligations there may be.
+/// The most obligations that a kernel may have.
 const MOST: usize = 65_536;
 
 impl<D: Domain> Obligations<D> {

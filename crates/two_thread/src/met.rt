@@ -59,7 +59,7 @@ impl<D: Copy> Met<D> {
         paths
     }
 
-    /// How many claims stand on the paths.
+    /// The number of claims on the paths.
     pub fn claim_count(&self) -> usize
         ensures count { result ≡ length self.now.claims.items }
         ensures seen { result ≡ length (met_claims self.now) }
@@ -67,7 +67,7 @@ impl<D: Copy> Met<D> {
         self.claims.len()
     }
 
-    /// How many accesses stand on the paths.
+    /// The number of accesses on the paths.
     pub fn access_count(&self) -> usize
         ensures count { result ≡ length self.now.accesses.items }
         ensures seen { result ≡ length (met_accesses self.now) }
@@ -75,7 +75,7 @@ impl<D: Copy> Met<D> {
         self.accesses.len()
     }
 
-    /// How many of the paths come to an end.
+    /// The number of paths that come to an end.
     pub fn end_count(&self) -> usize
         ensures count { result ≡ length self.now.ends.items }
         ensures seen { result ≡ length (met_ends self.now) }

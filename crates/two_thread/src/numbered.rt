@@ -32,7 +32,7 @@ pub enum Which {
     OfCrossing(Crossing),
 }
 
-/// What is known of every launch: its facts, and what the domain knows of its symbols.
+/// The premises of all obligations: the facts of every launch, and the domain's elements of its symbols.
 #[derive(Drop)]
 pub struct Premises<D> {
     pub launch: Vec<Form>,

@@ -36,7 +36,7 @@ pub fn parted<D: Copy>(alloc: Global, paths: Vec<Tagged<D>>) -> Result<Vec<OwnPa
     Ok(found)
 }
 
-/// The paths together.
+/// Collects the paths of one item in a list, in their order. The error is want of memory.
 pub fn together<D: Copy>(
     alloc: Global,
     paths: Vec<OwnPath<D>>,

@@ -1,7 +1,7 @@
 //! Section: Kernel text. Promises a core with a map of names that tells of just the core's parameters; stands on `kernel_names`.
 //!
-//! Kernels that were typed, whatever their text was: what is told of their names, and their core. No crate above opens a tree but those that
-//! read, print and test.
+//! Kernels that were typed, whatever their text was: what is told of their names, and their core. No crate above opens a tree but
+//! those that read, print and test.
 #![tactic(auto)]
 
 ghost use Rattle.std.specs.Prelude.{◌≡◌, ◌≤◌, length};

@@ -169,7 +169,7 @@ fn elaborate_repeated<'a>(
     loop_with(alloc, number, test, inside, update)
 }
 
-/// What a `for` has in parentheses.
+/// The parts of a `for` in its parentheses.
 #[derive(Clone, Copy)]
 struct Header<'a> {
     first: &'a First,

@@ -8,10 +8,10 @@ ghost use Rattle.unreckoned.specs.View.{marks as seen};
 use core_code::tree::{Array, Core, Space, Statement, Term};
 use std::alloc::{AllocError, Global};
 
-/// How often a kernel is gone over. What is not marked by then, though it should be, is found where it is asked what decides.
+/// The number of passes over a kernel. A mark that is missing then is found where it is asked what decides.
 const PASSES: usize = 16;
 
-/// Which slots, buffers and local arrays may hold what comes of an operation that is not reckoned.
+/// The slots, buffers and local arrays that may hold a result of an operation that is not reckoned.
 #[derive(Drop)]
 pub struct Marks {
     pub slots: Vec<bool>,

@@ -102,9 +102,9 @@ fn verify_narrowly<R: Threads + Wait + Sync, W: Watcher>(
     }
 }
 
-/// A kernel that is proved as by `verify`, or also under conditions of version 2, with so much effort. Where the check does not take what
-/// the wide walk found, the answer is what the narrow walk comes to, but where the budget alone is short. Whoever watches is told how far the
-/// search is.
+/// A kernel that is proved as by `verify`, or also under conditions of version 2, with so much effort. Where the check
+/// does not take what the wide walk found, the answer is what the narrow walk comes to, but where the budget alone is
+/// short. Whoever watches is told how far the search is.
 pub fn verify_watched<R: Threads + Wait + Sync, W: Watcher>(
     rt: &R,
     alloc: Global,

@@ -9,7 +9,7 @@ use facts::WalkError;
 use std::alloc::Global;
 use two_thread::{Met, Tagged};
 
-/// What is met on one path.
+/// The claims, accesses and ends of one path, as those of a list with this path alone. The error is want of memory.
 pub fn alone<D: Copy>(alloc: Global, path: Tagged<D>) -> Result<Met<D>, WalkError>
     requires accesses { all_own_accesses (accesses_seen path) ≡ true }
     requires ends { all_own_ends (ends_seen path) ≡ true }

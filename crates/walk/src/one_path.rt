@@ -33,7 +33,7 @@ pub struct OnePath<D> {
     pub next: Option<Vec<Choice>>,
 }
 
-/// Where paths begin: a place, how many claims stand before it, and how many of its paths came to an end.
+/// A start of paths: a place, the number of claims before it, and the number of its paths that came to an end so far.
 #[derive(Drop)]
 pub struct Start<'a, 'p> {
     pub place: &'a Place<'p>,

@@ -93,7 +93,7 @@ pub fn terrain_of<'a, D: Domain>(
 }
 
 impl<'a, D: Domain> Terrain<'a, D> {
-    /// Which claims have an entry, by their numbers.
+    /// For each claim, by its number, whether it has an entry.
     pub fn flags(&self) -> &[bool] {
         self.setting.entries.as_slice()
     }

@@ -1,4 +1,4 @@
-// The gate: what the workers of a run tell, and to whom.
+//! The gate: through it the workers of a run tell a test what they do.
 
 /// Is told what each worker of a run does, as a test does to steer or to watch it. No answer of a run rests on it.
 pub trait Gate: Sync {

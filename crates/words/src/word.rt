@@ -1,4 +1,5 @@
-// Words, and the operations on them.
+//! Words of the kinds `int`, `uint` and `size_t`, and the operations on them.
+
 ghost use Rattle.std.specs.Prelude.{◌≡◌, ◌≤◌, ◌<◌, ◌^◌, Ok, pos};
 ghost use Rattle.semantics.specs.Word as semantics;
 ghost use Rattle.words.specs.View.{kind, kind_of, value_of, word, number_of, seen};
@@ -265,7 +266,7 @@ pub fn shr(w: Word, k: u32) -> Result<Word, Fault>
     Ok(Word::Uint(w.bits() >> k))
 }
 
-/// How far a shift by a word goes: as its lowest five bits say (OpenCL 1.2, 6.3 j).
+/// The distance of a shift by a word: its lowest five bits (OpenCL 1.2, 6.3 j).
 pub fn count_of(w: Word) -> u32
     ensures value { result ≡ semantics.count_of (value_of w) }
     ensures few { result ≤ 31 }
@@ -321,7 +322,7 @@ pub fn read_as(w: Word, to: Kind) -> Word
     Word::from_bits(to, w.bits())
 }
 
-/// 2^k.
+/// The place value of a bit: 2^k.
 #[tactic(auto, using(crate::proofs::Powers::small_power))]
 pub fn power(k: u32) -> u32
     requires { k ≤ 31 }
@@ -331,7 +332,7 @@ pub fn power(k: u32) -> u32
     1 << k
 }
 
-/// What a test gives: `int` 0 or 1 (C99 6.5.8).
+/// The value of a test: `int` 0 or 1 (C99 6.5.8).
 pub fn truth(holds: bool) -> Word
     ensures { word result ≡ semantics.truth holds }
 {

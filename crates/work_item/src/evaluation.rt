@@ -36,7 +36,7 @@ pub struct Value<'a> {
     pub rest: &'a [Word],
 }
 
-/// Why a term has no value: its first load without an answer, or a fault before it.
+/// The reasons for which a term has no value: its first load without an answer, or a fault before it.
 #[derive(Clone, Copy)]
 pub enum Stop {
     Needs {
@@ -109,7 +109,7 @@ impl<'a> Identity<'a> {
         }
     }
 
-    /// How many elements an array has.
+    /// The number of elements of an array.
     pub fn extent(&self, array: Array) -> usize
         ensures { result ≡ extent (setup_at self.now) (array_seen array) }
     {

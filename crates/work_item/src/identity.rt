@@ -34,7 +34,7 @@ pub fn product_of(counts: Counts) -> u64
     counts.x as u64 * counts.y as u64 * counts.z as u64
 }
 
-/// How many work-items a group has.
+/// The number of work-items of a group.
 #[tactic(auto, unfolding(semantics::specs::Setup::group_size))]
 pub fn group_size(core: &Core) -> u64
     requires { are_sizes (kernel_seen core.now).sizes ≡ true }

@@ -20,7 +20,7 @@ use launch::launches::Launch;
 use std::alloc::{AllocError, Global};
 use words::{Fault, Kind, Word, read_as};
 
-/// How a work-item stands.
+/// The status of a work-item: running, waiting at a barrier, ended, or stopped by a fault.
 #[derive(Clone, Copy)]
 pub enum Status {
     Running,

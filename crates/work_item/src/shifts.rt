@@ -10,7 +10,7 @@ ghost use Rattle.work_item.specs.Proper.{is_shift_kind};
 use core_code::tree::Direction;
 use words::{Kind, Word, power, read_as};
 
-/// How far a shift by a word goes: as its lowest five bits say (OpenCL 1.2, 6.3 j).
+/// The distance of a shift by a word: its lowest five bits (OpenCL 1.2, 6.3 j).
 #[inline(always)]
 fn count_of(word: Word) -> u32
     ensures value { result ≡ meaning.count_of (value_of word) }

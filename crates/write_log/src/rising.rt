@@ -72,7 +72,7 @@ impl RisingList {
         }
     }
 
-    /// Where the stretch of a number starts; past the last one, where all end.
+    /// The start of the stretch of a number, in words; past the last stretch, the number of all words.
     pub fn border(&self, number: usize) -> usize
         ensures { result ≡ border self.now.stretches.items (length self.now.bits.items) number }
     {
@@ -190,7 +190,7 @@ impl RisingList {
         Ok(())
     }
 
-    /// The entries.
+    /// All entries, in their order: each with its buffer, its element and its word. The error is want of memory.
     pub fn records(&self, alloc: Global) -> Result<Vec<((u32, u32), Word)>, AllocError>
         ensures { IfOk result (λ records. records.items ≡ entries_in self.now.stretches.items self.now.bits.items) }
     {

@@ -58,6 +58,7 @@ def _library():
         ("kv_version", u32, []),
         ("kv_explain", ctypes.c_uint64, [*text * 3, u32, *room]),
         ("kv_options", ctypes.c_uint64, [*text, *room]),
+        ("kv_run", u32, [*text * 4, u32, *room, ctypes.POINTER(ctypes.c_uint64), answer]),
         ("kv_open", u32, [*text * 3, u32, ctypes.POINTER(ctypes.c_void_p), answer]),
         ("kv_allows", u32, [ctypes.c_void_p, u32, *launch, answer]),
         ("kv_close", None, [ctypes.c_void_p]),
@@ -91,6 +92,21 @@ def explain(kernel, conditions, certificate, options=0):
 def options_of(conditions):
     """The options that a program is to be built with."""
     return _text_of(_kv.kv_options, *_sized(conditions)).decode("ascii")
+
+
+def run(kernel, conditions, certificate, launch, bits32=False, room=1 << 16):
+    """The text of the buffers with which a launch ends, by its text, run on the calling thread without a device; or Refused is raised."""
+    answer, whole, options = Answer(), ctypes.c_uint64(), BITS32 if bits32 else 0
+    texts = _sized(kernel, conditions, certificate, launch)
+    while True:
+        place = ctypes.create_string_buffer(max(1, room))
+        if _kv.kv_run(*texts, options, place, len(place), ctypes.byref(whole), ctypes.byref(answer)):
+            if answer.number == MEMORY:
+                raise MemoryError
+            raise Refused(answer, f"refused {answer.number}, place {answer.place}")
+        if whole.value <= len(place):
+            return place.raw[: whole.value]
+        room = whole.value
 
 
 def value(given):

@@ -1,7 +1,7 @@
 use Rattle.std.proofs.Common.{ap, ◌∙◌, rules, arith}
 use Rattle.std.proofs.lemmas.Grind.{common_steps}
 use Rattle.opencl_tree.specs.View.{statement}
-use Rattle.opencl_tree.proofs.Rows.{seen_if, seen_while, seen_do, seen_for, seen_block}
+use Rattle.opencl_tree.proofs.Rows.{seen_if, seen_while, seen_do, seen_for, seen_switch, seen_block}
 use Rattle.opencl_core.specs.Writing.{write_statement}
 use Rattle.opencl_core.proofs.writing.+writing.Goals as goal
 
@@ -29,6 +29,11 @@ pub write_statement-returns-in-For : goal.write_statement-returns-in-For
 unfolding write_statement
 write_statement-returns-in-For t c =
     rw (ap statement c.in-For.is ∙ seen_for c.in-For.number c.in-For.site c.in-For.first c.in-For.test c.in-For.update c.in-For.body) (first_of (search rules, grind (arith, common_steps)))
+
+pub write_statement-returns-in-Switch : goal.write_statement-returns-in-Switch
+unfolding write_statement
+write_statement-returns-in-Switch t c =
+    rw (ap statement c.in-Switch.is ∙ seen_switch c.in-Switch.number c.in-Switch.site c.in-Switch.test c.in-Switch.body) (first_of (search rules, grind (arith, common_steps)))
 
 pub write_statement-returns-in-Block : goal.write_statement-returns-in-Block
 unfolding write_statement

@@ -4,7 +4,7 @@ use Rattle.semantics.specs.Conditions.{Content}
 use Rattle.texts.specs.Surface.{Parameter}
 use Rattle.launch_text.specs.LaunchFaults.{LimitPassed, Step, Cursor, cursor, expect, end_line}
 use Rattle.launch_text.specs.LaunchWords.{Conditions, due, end_text}
-use Rattle.launch_text.specs.ConditionsReading.{ContentLine, Lined, content_meant, meant, groups_line, argument_lines, length_lines, requirement_lines, content_lines, budget_line, lined, version_at, numbered_line, version_line, conditions_at, conditions_limit, conditions_of}
+use Rattle.launch_text.specs.ConditionsReading.{ContentLine, Lined, content_meant, meant, groups_line, argument_lines, length_lines, requirement_lines, content_lines, budget_at, lined, version_at, numbered_line, version_line, is_third, conditions_at, conditions_limit, conditions_of}
 use Rattle.launch_text.proofs.Back.{then_back, same_back, unless_back}
 
 version_one : (c : Cursor) (t : Bool × Cursor) → version_at false c ≡ Ok t → t.0 ≡ false
@@ -39,7 +39,7 @@ no_lines ps c x e =
     let lengths = then_back (length_lines version.0.0 ps arguments.0.1) _ x arguments.2 in
     let requires = then_back (requirement_lines version.0.0 ps lengths.0.1) _ x lengths.2 in
     let contents = then_back (content_lines version.0.0 ps requires.0.1) _ x requires.2 in
-    let budget = then_back (budget_line contents.0.1) _ x contents.2 in
+    let budget = then_back (budget_at (is_third false c) contents.0.1) _ x contents.2 in
     let end = then_back (end_text budget.0.1) _ x budget.2 in
     let none = none_read ps requires.0.1 contents.0 (subst (λ b. content_lines b ps requires.0.1 ≡ Ok contents.0) (first_one c version.0 version.1) contents.1) in
     ap (λ (y : Lined). y.contents) (sym (same_back (lined groups.0.0 version.0.1.line arguments.0.0 lengths.0.0 requires.0.0 contents.0.0 budget.0.0) x end.2)) ∙ none

@@ -12,15 +12,16 @@ use Rattle.host_launches.specs.declared.shapes.Shape.TheVariants.{Value, Buffer,
 use Rattle.host_launches.specs.Shapes.{size_of, bytes_of}
 use Rattle.host_launches.specs.Fitting.{is_among, is_short, value_fits, buffer_fits, local_fits, argument_fits, each_fits, arguments_fit, lesser}
 use Rattle.host_launches.specs.Launches.{IsArgumentOf, AreOther, AreApart, AreApartBehind}
-use Rattle.host_launches.specs.Numbers.{lengths_at, lengths_of}
+use Rattle.host_launches.specs.Numbers.{has_word, lengths_at, lengths_of}
 use Rattle.host_launches.specs.Refusing.{fine, on, when}
 use Rattle.host_launches.proofs.Taking.{on-ok, when-ok, both, equal, within, below, not-zero}
 
 pub one_fits : (s : Shape) (n : ℕ) (a : Argument) (es : List Argument) → argument_fits s n a es ≡ fine → IsArgumentOf s a
 one_fits (Value e) n a es h =
-    let t = when-ok (nat_eq a.kind 0 && nat_eq a.bytes (bytes_of e.scalar e.width)) 41 n fine tt h in
-    let p = both (nat_eq a.kind 0) (nat_eq a.bytes (bytes_of e.scalar e.width)) t.0 in
-    (equal a.kind 0 p.0, equal a.bytes (bytes_of e.scalar e.width) p.1)
+    let t = when-ok (nat_eq a.kind 0 && (nat_eq a.bytes (bytes_of e.scalar e.width) && has_word e.scalar a.words)) 41 n fine tt h in
+    let p = both (nat_eq a.kind 0) (nat_eq a.bytes (bytes_of e.scalar e.width) && has_word e.scalar a.words) t.0 in
+    let q = both (nat_eq a.bytes (bytes_of e.scalar e.width)) (has_word e.scalar a.words) p.1 in
+    (equal a.kind 0 p.0, equal a.bytes (bytes_of e.scalar e.width) q.0, q.1)
 one_fits (Buffer e) n a es h =
     let t = when-ok (nat_eq a.kind 1 && not (nat_eq a.memory 0)) 41 n (when (is_short e a) 47 n (when (not (is_among a.memory es)) 44 n fine)) tt h in
     let u = when-ok (is_short e a) 47 n (when (not (is_among a.memory es)) 44 n fine) tt t.1 in

@@ -53,6 +53,7 @@ component_is scalars.Short ws n = narrow_is 32768 (pair_at ws n) (omega arith) (
 component_is scalars.Ushort ws n = unsigned_is (pair_at ws n) (pair_below ws n)
 component_is scalars.Int ws n = whole_is word.Int (whole_at ws n) (whole_below ws n)
 component_is scalars.Uint ws n = whole_is word.Uint (whole_at ws n) (whole_below ws n)
+component_is scalars.Long ws n = whole_is word.Int (whole_at ws n) (whole_below ws n)
 component_is scalars.Float ws n = whole_is word.Uint (whole_at ws n) (whole_below ws n)
 
 components_are : (s : Scalar) (ws : List ℕ) (n count : ℕ) (ks : List Kind) (vs : List Word) → AllZip IsArgument ks vs → AllZip IsArgument (component_kinds s count ++ ks) (components s ws n count ++ vs)

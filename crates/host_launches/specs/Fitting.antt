@@ -6,6 +6,7 @@ use Rattle.host_launches.specs.declared.shapes.Element.{Element}
 use Rattle.host_launches.specs.declared.shapes.Shape.{Shape}
 use Rattle.host_launches.specs.declared.shapes.Shape.TheVariants.{Value, Buffer, Local}
 use Rattle.host_launches.specs.Shapes.{size_of, bytes_of}
+use Rattle.host_launches.specs.Numbers.{has_word}
 use Rattle.host_launches.specs.Refusing.{fine, on, when}
 
 abbrev pub Fit : Type 0
@@ -17,7 +18,7 @@ is_among m [] = false
 is_among m (a ∷ gs) = (nat_eq a.kind 1 && nat_eq a.memory m) || is_among m gs
 
 abbrev pub value_fits : Element → (at : ℕ) → Argument → Fit
-value_fits e n a = when (nat_eq a.kind 0 && nat_eq a.bytes (bytes_of e.scalar e.width)) 41 n fine
+value_fits e n a = when (nat_eq a.kind 0 && (nat_eq a.bytes (bytes_of e.scalar e.width) && has_word e.scalar a.words)) 41 n fine
 
 -- a `uint` counts its components
 abbrev pub is_short : Element → Argument → Bool

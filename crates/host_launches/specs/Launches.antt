@@ -11,7 +11,7 @@ use Rattle.host_launches.specs.declared.shapes.Shape.TheVariants.{Value, Buffer,
 use Rattle.host_launches.specs.declared.sizes.Along.{Along}
 use Rattle.host_launches.specs.Shapes.{size_of, bytes_of}
 use Rattle.host_launches.specs.Sizes.{first, second, third}
-use Rattle.host_launches.specs.Numbers.{words_of, lengths_of}
+use Rattle.host_launches.specs.Numbers.{has_word, words_of, lengths_of}
 
 -- groups times work-items are the global size; the words are those of the values; the lengths are bytes by the size of a component; what
 -- buffers hold is of their kinds
@@ -31,7 +31,7 @@ pub record AreWholeGroups (size : ℕ) (a : Along) : Type 0 where
   pub groups : (n : ℕ) × IsCount n × (n * size ≡ a.global)
 
 abbrev pub IsArgumentOf : Shape → Argument → Type 0
-IsArgumentOf (Value e) a = (a.kind ≡ 0) × (a.bytes ≡ bytes_of e.scalar e.width)
+IsArgumentOf (Value e) a = (a.kind ≡ 0) × (a.bytes ≡ bytes_of e.scalar e.width) × (has_word e.scalar a.words ≡ true)
 IsArgumentOf (Buffer e) a = (a.kind ≡ 1) × (a.memory ≢ 0) × (a.bytes / size_of e.scalar ≤ 4294967295)
 IsArgumentOf (Local e count) a = (a.kind ≡ 2) × (count * bytes_of e.scalar e.width ≤ a.bytes)
 

@@ -1,5 +1,5 @@
 -- The words of the values among a host's arguments, and the lengths of its buffers, in components.
-use Rattle.std.specs.Prelude.{ℕ, ◌*◌, ◌/◌, ◌%◌, ◌^◌, ◌+◌, zero, suc, ℤ, pos, ◌-ℤ◌, List, [], ◌∷◌, ◌++◌, slice_index, cond, nat_lt}
+use Rattle.std.specs.Prelude.{ℕ, ◌*◌, ◌/◌, ◌%◌, ◌^◌, ◌+◌, zero, suc, ℤ, pos, ◌-ℤ◌, List, [], ◌∷◌, ◌++◌, slice_index, cond, nat_lt, nat_eq, Bool, true}
 use Rattle.semantics.specs.Word as word
 use Rattle.semantics.specs.Word.{Word, read_bits}
 use Rattle.host_launches.specs.declared.given.Argument.{Argument}
@@ -29,6 +29,17 @@ unsigned b = word.word word.Int (pos b)
 abbrev pub whole : word.Kind → (bits : ℕ) → Word
 whole k b = word.word k (read_bits k b)
 
+-- a `long` is no vector, and has the number of an `int`: the higher half repeats the sign of the lower one
+abbrev pub sign_half : (low : ℕ) → ℕ
+sign_half b = cond (nat_lt b 2147483648) 0 4294967295
+
+abbrev pub is_int : (words : List ℕ) → Bool
+is_int ws = nat_eq (whole_at ws 1) (sign_half (whole_at ws 0))
+
+abbrev pub has_word : Scalar → (words : List ℕ) → Bool
+has_word scalars.Long ws = is_int ws
+has_word s ws = true
+
 -- the word of the component at a place of a value
 abbrev pub component : Scalar → (words : List ℕ) → (place : ℕ) → Word
 component scalars.Char ws n = narrow 128 (byte_at ws n)
@@ -37,6 +48,7 @@ component scalars.Short ws n = narrow 32768 (pair_at ws n)
 component scalars.Ushort ws n = unsigned (pair_at ws n)
 component scalars.Int ws n = whole word.Int (whole_at ws n)
 component scalars.Uint ws n = whole word.Uint (whole_at ws n)
+component scalars.Long ws n = whole word.Int (whole_at ws n)
 component scalars.Float ws n = whole word.Uint (whole_at ws n)
 
 -- so many components from a place on

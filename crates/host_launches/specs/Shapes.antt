@@ -12,9 +12,10 @@ size_of scalars.Short = 2
 size_of scalars.Ushort = 2
 size_of scalars.Int = 4
 size_of scalars.Uint = 4
+size_of scalars.Long = 8
 size_of scalars.Float = 4
 
--- as an argument: what is narrower than `int` is one, and a `float` is the `uint` of its bits
+-- as an argument: what is narrower than `int` is one, a `long` has to be one, and a `float` is the `uint` of its bits
 abbrev pub kind_of : Scalar → word.Kind
 kind_of scalars.Char = word.Int
 kind_of scalars.Uchar = word.Int
@@ -22,9 +23,10 @@ kind_of scalars.Short = word.Int
 kind_of scalars.Ushort = word.Int
 kind_of scalars.Int = word.Int
 kind_of scalars.Uint = word.Uint
+kind_of scalars.Long = word.Int
 kind_of scalars.Float = word.Uint
 
--- as an element of a buffer
+-- as an element of a buffer; none is a `long`
 abbrev pub stored_kind : Scalar → word.Kind
 stored_kind scalars.Char = word.Uint
 stored_kind scalars.Uchar = word.Uint
@@ -32,6 +34,7 @@ stored_kind scalars.Short = word.Uint
 stored_kind scalars.Ushort = word.Uint
 stored_kind scalars.Int = word.Int
 stored_kind scalars.Uint = word.Uint
+stored_kind scalars.Long = word.Int
 stored_kind scalars.Float = word.Uint
 
 -- a vector of 3 components takes the room of 4

@@ -4,6 +4,7 @@ ghost use Rattle.std.specs.Prelude.{◌≡◌, ◌<◌, length};
 ghost use Rattle.host_launches.specs.Fitting as rules;
 
 use crate::given::{Argument, Refusal};
+use crate::numbers::has_word;
 use crate::shapes::{Element, Shape};
 
 /// As many elements as a `uint` counts.
@@ -24,7 +25,7 @@ fn is_among(memory: u64, arguments: &[Argument]) -> bool
 fn value_fits(of: Element, at: u64, one: &Argument) -> Result<(), Refusal>
     ensures { result ≡ rules.value_fits of at one.now }
 {
-    if one.kind == 0 && one.bytes == of.size() as u64 {
+    if one.kind == 0 && one.bytes == of.size() as u64 && has_word(of.scalar, &one.words) {
         Ok(())
     } else {
         Err(Refusal {

@@ -61,6 +61,28 @@ fn unsigned(bits: u32) -> Word
     Word::Int(bits as i32)
 }
 
+// Whether the higher half repeats the sign of the lower one.
+fn is_int(words: &[u32; 16]) -> bool
+    ensures { result ≡ rules.is_int words.now }
+{
+    whole_at(words, 1)
+        == if whole_at(words, 0) < 2_147_483_648 {
+            0
+        } else {
+            u32::MAX
+        }
+}
+
+/// Whether a value has a word: a `long` has one where its number is an `int`.
+pub fn has_word(scalar: Scalar, words: &[u32; 16]) -> bool
+    ensures { result ≡ rules.has_word scalar words.now }
+{
+    match scalar {
+        Scalar::Long => is_int(words),
+        _ => true,
+    }
+}
+
 /// The word of the component at a place of a value.
 fn component(scalar: Scalar, words: &[u32; 16], place: u32) -> Word
     requires { place < 16 }
@@ -71,7 +93,7 @@ fn component(scalar: Scalar, words: &[u32; 16], place: u32) -> Word
         Scalar::Uchar => unsigned(byte_at(words, place)),
         Scalar::Short => narrow_short(pair_at(words, place)),
         Scalar::Ushort => unsigned(pair_at(words, place)),
-        Scalar::Int => Word::from_bits(Kind::Int, whole_at(words, place)),
+        Scalar::Int | Scalar::Long => Word::from_bits(Kind::Int, whole_at(words, place)),
         Scalar::Uint | Scalar::Float => Word::from_bits(Kind::Uint, whole_at(words, place)),
     }
 }

@@ -13,6 +13,7 @@ pub enum Scalar {
     Ushort,
     Int,
     Uint,
+    Long,
     Float,
 }
 
@@ -45,6 +46,7 @@ impl Scalar {
             Scalar::Char | Scalar::Uchar => 1,
             Scalar::Short | Scalar::Ushort => 2,
             Scalar::Int | Scalar::Uint | Scalar::Float => 4,
+            Scalar::Long => 8,
         }
     }
 
@@ -55,7 +57,7 @@ impl Scalar {
         match self {
             Scalar::Char | Scalar::Uchar => Kind::Int,
             Scalar::Short | Scalar::Ushort => Kind::Int,
-            Scalar::Int => Kind::Int,
+            Scalar::Int | Scalar::Long => Kind::Int,
             Scalar::Uint | Scalar::Float => Kind::Uint,
         }
     }
@@ -67,7 +69,7 @@ impl Scalar {
         match self {
             Scalar::Char | Scalar::Uchar => Kind::Uint,
             Scalar::Short | Scalar::Ushort => Kind::Uint,
-            Scalar::Int => Kind::Int,
+            Scalar::Int | Scalar::Long => Kind::Int,
             Scalar::Uint | Scalar::Float => Kind::Uint,
         }
     }

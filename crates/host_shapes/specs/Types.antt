@@ -24,6 +24,7 @@ scalar_of types.Short = Some scalars.Short
 scalar_of types.Ushort = Some scalars.Ushort
 scalar_of types.Int = Some scalars.Int
 scalar_of types.Uint = Some scalars.Uint
+scalar_of types.Long = Some scalars.Long
 scalar_of types.Size = None
 scalar_of types.Float = Some scalars.Float
 

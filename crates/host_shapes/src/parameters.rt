@@ -34,6 +34,7 @@ fn scalar_of(of: TypedScalar) -> Option<Scalar>
         TypedScalar::Int => Some(Scalar::Int),
         TypedScalar::Uint => Some(Scalar::Uint),
         TypedScalar::Float => Some(Scalar::Float),
+        TypedScalar::Long => Some(Scalar::Long),
         TypedScalar::Boolean | TypedScalar::Size => None,
     }
 }

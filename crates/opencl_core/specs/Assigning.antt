@@ -8,7 +8,7 @@ use Rattle.texts.specs.Surface.{AssignSign, Plain, With, WithLeftShift, WithRigh
 use Rattle.kernel_names.specs.NameMap.{Other}
 use Rattle.opencl_tree.specs.Types.{TypeName, Base, Void, Qualifiers}
 use Rattle.opencl_tree.specs.Tree.{StepSign, Increment, Decrement, Expression, Name, Index, Member, Prefix, Indirection, Step, Cast, Assign, Comma}
-use Rattle.opencl_terms.specs.Types.{Scalar, Int, ValueType, Value, type_of, is_vector, kind_of, is_float}
+use Rattle.opencl_terms.specs.Types.{Scalar, Int, ValueType, Value, type_of, is_vector, kind_of, is_float, is_unsettled}
 use Rattle.opencl_terms.specs.Conversions.{stored}
 use Rattle.opencl_values.specs.Faults.{Checked, Fault, UnknownName, WrongType, WriteToConst, LeftOut, Vector, Pointer, Effect, refused, then, when, found}
 use Rattle.opencl_values.specs.Scope.{Meaning, VariableOf, ArrayOf, PointerOf, NumberOf, TypeOf, meaning_of}
@@ -40,10 +40,21 @@ abbrev pub value_in : Option Expression → Room → Checked Value
 value_in None r = Ok one
 value_in (Some e) r = value_of (known r) e
 
+-- whether the low bits of a result follow from the low bits of its operands
+abbrev pub keeps_bits : Operator → Bool
+keeps_bits word.Divide = false
+keeps_bits word.Remainder = false
+keeps_bits op = true
+
+-- of a `long` and a size devices make different things, of which the bits that the target keeps are the same
+abbrev pub settled : (ids : Kind) → Operator → Site → (old new : Value) → Checked Value
+settled ids op at old new =
+    cond (keeps_bits op && is_unsettled old.type.scalar new.type.scalar) (converted_to ids at old.type new) (Ok new)
+
 -- the value of `x op= e` is that of `x op (e)` (6.5.16.2p3)
 abbrev pub combined : (ids : Kind) → AssignSign → Site → (old new : Value) → Checked Value
 combined ids Plain at old new = Ok new
-combined ids (With op) at old new = infix_of ids (Arithmetic op) at old new
+combined ids (With op) at old new = then (settled ids op at old new) (infix_of ids (Arithmetic op) at old)
 combined ids WithLeftShift at old new = infix_of ids LeftShift at old new
 combined ids WithRightShift at old new = infix_of ids RightShift at old new
 

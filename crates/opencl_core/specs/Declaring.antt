@@ -8,9 +8,10 @@ use Rattle.semantics.specs.Launch.{LocalArray, Three}
 use Rattle.kernel_names.specs.NameMap.{with_array, Other}
 use Rattle.opencl_tree.specs.Types.{Space, Global, Local, Constant, Private, Qualifiers}
 use Rattle.opencl_tree.specs.Tree.{Expression, Initial, Absent, Given, Listed, Initials, no_more, and_then, Declarator, Declaration}
-use Rattle.opencl_terms.specs.Types.{Scalar, Boolean, Size, ValueType, Value, kind_of, stored_kind, is_vector}
+use Rattle.opencl_terms.specs.Types.{Scalar, Boolean, Long, Size, ValueType, Value, kind_of, stored_kind, is_vector}
 use Rattle.opencl_terms.specs.Conversions.{int, uint, stored}
-use Rattle.opencl_values.specs.Faults.{Checked, WrongType, TooMany, LeftOut, Pointer, PrivateArray, InitialList, LocalScalar, ConstantVariable, refused, then, when, found}
+use Rattle.opencl_values.specs.Faults as faults
+use Rattle.opencl_values.specs.Faults.{Checked, Fault, WrongType, TooMany, LeftOut, Pointer, PrivateArray, InitialList, LocalScalar, ConstantVariable, refused, then, when, found}
 use Rattle.opencl_values.specs.Scope.{Meaning, ArrayOf, OwnOf, PointerOf, TypeOf}
 use Rattle.opencl_values.specs.Elements.{in_row}
 use Rattle.opencl_values.specs.Singles.{as_scalar}
@@ -33,15 +34,20 @@ most_arrays = 64
 abbrev pub most_elements : ℕ
 most_elements = 1048576
 
--- a `bool` and a size have no size in memory of their own (6.9 k)
+-- a `bool` and a size have no size in memory of their own (6.9 k); elements that are `long` are left out
 abbrev pub has_elements : Scalar → Bool
 has_elements Boolean = false
 has_elements Size = false
+has_elements Long = false
 has_elements s = true
+
+abbrev pub lacking : Scalar → Fault
+lacking Long = LeftOut faults.Long
+lacking s = WrongType
 
 -- the scalar of elements in memory
 abbrev pub element_of_type : Site → ValueType → Checked Scalar
-element_of_type at t = when (has_elements t.scalar) WrongType at t.scalar
+element_of_type at t = when (has_elements t.scalar) (lacking t.scalar) at t.scalar
 
 abbrev pub has_place : Room → Bool
 has_place r = nat_lt (length r.buffers + length r.arrays) most_arrays

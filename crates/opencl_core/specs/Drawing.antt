@@ -9,10 +9,10 @@ use Rattle.semantics.specs.Core.{Site}
 use Rattle.kernel_names.specs.NameMap.{Other}
 use Rattle.texts.specs.Surface.{AssignSign, Plain, InfixSign, LogicalAnd, LogicalOr}
 use Rattle.opencl_tree.specs.Tree.{StepSign, Side, Before, Behind, Expression, Integer, Real, Name, Call, Index, Member, Prefix, Step, Cast, Vector, Infix, Conditional, Assign, Comma, SizeofType, SizeofOf, Expressions, nothing, also}
-use Rattle.opencl_terms.specs.Types.{Scalar, Int, Value, kind_of}
+use Rattle.opencl_terms.specs.Types.{Scalar, Int, Value, kind_of, is_unsettled}
 use Rattle.opencl_effects.specs.Effects.{is_helper, has_effect, clash, clash_among, clash_assigned, stores_twice}
 use Rattle.opencl_effects.specs.Marks.{Sort, OfStep, OfAssign, OfComma, OfLogical, OfChoice, places_are_apart}
-use Rattle.opencl_values.specs.Faults.{Checked, LeftOut, Effect, when, then}
+use Rattle.opencl_values.specs.Faults.{Checked, LeftOut, Effect, Long, refused, when, then}
 use Rattle.opencl_values.specs.Singles.{Single, single, alone, as_scalar, as_test, scalar_of_both}
 use Rattle.opencl_values.specs.Wholes.{whole, only, places}
 use Rattle.opencl_values.specs.Operations.{infix_of}
@@ -167,7 +167,8 @@ both_arms taken skipped at a b r = then (draw_arm taken at a r) (λ x. then (dra
 abbrev pub draw_choice : (taken skipped : Room → Checked Room) → Site → (t a b : Expression) → Room → Checked Room
 draw_choice taken skipped at t a b r =
     then (counted_test at t r) (λ c. then (both_arms taken skipped at a b c.2) (λ x.
-    keep_choice at c.0 c.1 (scalar_of_both x.0.value x.1.value) x.0 x.1 x.2))
+    cond (is_unsettled x.0.value.scalar x.1.value.scalar) (refused (LeftOut Long) at)
+    (keep_choice at c.0 c.1 (scalar_of_both x.0.value x.1.value) x.0 x.1 x.2)))
 
 abbrev pub choice_drawn : (taken skipped : Room → Checked Room) → Site → (t a b : Expression) → Room → Checked Room
 choice_drawn taken skipped at t a b r =

@@ -8,7 +8,7 @@ use Rattle.kernel_names.specs.NameMap.{NameMap}
 use Rattle.opencl_files.specs.FileTree.{Parameter}
 use Rattle.opencl_tree.specs.Types.{Space, Global, Local, Constant, Private, Qualifiers}
 use Rattle.opencl_tree.specs.Tree.{Expression}
-use Rattle.opencl_terms.specs.Types.{Scalar, Int, ValueType, kind_of, stored_kind, is_narrow, is_vector}
+use Rattle.opencl_terms.specs.Types.{Scalar, Boolean, Int, Size, ValueType, kind_of, stored_kind, is_narrow, is_vector}
 use Rattle.opencl_terms.specs.Conversions.{converted}
 use Rattle.opencl_values.specs.Faults.{Checked, WrongType, TooMany, NameTwice, LocalLength, LeftOut, Pointer, refused, then, when, found}
 use Rattle.opencl_values.specs.Scope.{ArrayOf, VariableOf}
@@ -98,9 +98,18 @@ add_arguments p s (n ∷ ns) r = then (add_argument p s n r) (add_arguments p s 
 abbrev pub add_and_narrow : Named → Scalar → (slot : ℕ) → Room → Checked Room
 add_and_narrow p s slot r = then (add_arguments p s (places p.type.width) r) (narrow_all p.site slot s (places p.type.width))
 
+-- a `bool` and a size have no size of their own (6.9 k)
+abbrev pub is_argument : Scalar → Bool
+is_argument Boolean = false
+is_argument Size = false
+is_argument s = true
+
+abbrev pub argument_of_type : Site → ValueType → Checked Scalar
+argument_of_type at t = when (is_argument t.scalar) WrongType at t.scalar
+
 abbrev pub declare_argument : Named → (is_constant : Bool) → Room → Checked Room
 declare_argument p is_constant r =
-    then (element_of_type p.site p.type) (λ s. then (next_slots p.site p.type.width r) (λ slot.
+    then (argument_of_type p.site p.type) (λ s. then (next_slots p.site p.type.width r) (λ slot.
     then (declared p.site p.name (VariableOf p.type slot is_constant) r) (add_and_narrow p s slot)))
 
 abbrev pub declare_pointer : List LocalCount → Named → Qualifiers → Option Space → Room → Checked Room

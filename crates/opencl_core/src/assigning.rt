@@ -27,7 +27,7 @@ use core_code::tree::{Array, Operator, Site, Space, Statement, Term};
 use core_pieces::copies::copy_of;
 use kernel_names::Sort;
 use opencl_terms::narrowing::stored;
-use opencl_terms::scalars::{Scalar, ValueType};
+use opencl_terms::scalars::{Scalar, ValueType, is_unsettled};
 use opencl_tree::tree::{Expr, PrefixSign, StepSign};
 use opencl_tree::types::{Base, Qualifiers};
 use opencl_values::elements::{Element, Part, as_offset, loaded_from, steps};
@@ -75,6 +75,31 @@ fn value_in(alloc: Global, value: Option<&Expr>, room: &Room) -> Result<Value, V
     }
 }
 
+// Whether the low bits of a result follow from the low bits of its operands.
+fn keeps_bits(operator: Operator) -> bool
+    ensures { result ≡ rules.keeps_bits (operator_seen operator) }
+{
+    !matches!(operator, Operator::Divide | Operator::Remainder)
+}
+
+// The new value as it stands beside the old one.
+fn settled(
+    alloc: Global,
+    ids: Kind,
+    operator: Operator,
+    at: Site,
+    old: &Value,
+    new: Value,
+) -> Result<Value, ValueError>
+    ensures { Gives value_seen result (rules.settled (kind_seen ids) (operator_seen operator) (site_seen at) (value_seen old.now) (value_seen new)) }
+{
+    if keeps_bits(operator) && is_unsettled(old.of.scalar, new.of.scalar) {
+        converted_to(alloc, ids, at, old.of, new)
+    } else {
+        Ok(new)
+    }
+}
+
 /// The value that an operator makes of the old and the new one.
 pub fn combined(
     alloc: Global,
@@ -86,13 +111,15 @@ pub fn combined(
 ) -> Result<Value, ValueError>
     ensures { Gives value_seen result (rules.combined (kind_seen ids) (assign_sign sign) (site_seen at) (value_seen old) (value_seen new)) }
 {
-    let sign = match sign {
-        AssignSign::Plain => return Ok(new),
-        AssignSign::With(operator) => InfixSign::Arithmetic(operator),
-        AssignSign::WithLeftShift => InfixSign::LeftShift,
-        AssignSign::WithRightShift => InfixSign::RightShift,
-    };
-    infix_of(alloc, ids, sign, at, old, new)
+    match sign {
+        AssignSign::Plain => Ok(new),
+        AssignSign::With(operator) => {
+            let new = settled(alloc, ids, operator, at, &old, new)?;
+            infix_of(alloc, ids, InfixSign::Arithmetic(operator), at, old, new)
+        }
+        AssignSign::WithLeftShift => infix_of(alloc, ids, InfixSign::LeftShift, at, old, new),
+        AssignSign::WithRightShift => infix_of(alloc, ids, InfixSign::RightShift, at, old, new),
+    }
 }
 
 /// What a target gets, in its own type, by what it had.

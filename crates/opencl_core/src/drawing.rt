@@ -23,7 +23,7 @@ use opencl_effects::effects::{
     clash, clash_among, clash_assigned, has_effect, is_helper, stores_twice,
 };
 use opencl_effects::marks::{Sort, places_are_apart};
-use opencl_terms::scalars::Scalar;
+use opencl_terms::scalars::{Scalar, is_unsettled};
 use opencl_tree::tree::{Expr, Side, StepSign};
 use opencl_values::error::{Construct, Fault, ValueError, refused};
 use opencl_values::operations::infix_of;
@@ -532,6 +532,9 @@ fn draw_choice(
 {
     let (number, test) = counted_test(alloc, at, test, room)?;
     let arms = both_arms(alloc, at, taken, skipped, room)?;
+    if is_unsettled(arms.0.value.scalar, arms.1.value.scalar) {
+        return refused(Fault::LeftOut(Construct::Long), at);
+    }
     let to = scalar_of_both(arms.0.value.scalar, arms.1.value.scalar);
     keep_choice(alloc, (at, number, test), to, arms, room)
 }

@@ -302,6 +302,16 @@ fn add_and_narrow(
     narrow_all(alloc, parameter.site, slot, scalar, all, room)
 }
 
+// The scalar of a type that kernel parameters may have (OpenCL 1.2, 6.9 k).
+fn argument_of_type(at: Site, of: ValueType) -> Result<Scalar, ValueError>
+    ensures { Gives scalar_seen result (rules.argument_of_type (site_seen at) (value_type of)) }
+{
+    match of.scalar {
+        Scalar::Boolean | Scalar::Size => refused(Fault::WrongType, at),
+        scalar => Ok(scalar),
+    }
+}
+
 fn declare_argument<'a>(
     alloc: Global,
     parameter: Named<'a>,
@@ -312,7 +322,7 @@ fn declare_argument<'a>(
 {
     let at = parameter.site;
     let of = parameter.of;
-    let scalar = element_of_type(at, of)?;
+    let scalar = argument_of_type(at, of)?;
     let slot = room.next_slots(at, of.width)?;
     let meaning = Meaning::Variable {
         of,

@@ -4,7 +4,7 @@ ghost use Rattle.std.specs.Prelude.{◌≡◌, ◌+◌, nat_le, OnOk};
 ghost use Rattle.core_code.specs.View.{local_array, site as site_seen};
 ghost use Rattle.opencl_terms.specs.Answers.{value_type};
 ghost use Rattle.opencl_terms.specs.View.{scalar as scalar_seen};
-ghost use Rattle.opencl_values.specs.View.{Gives};
+ghost use Rattle.opencl_values.specs.View.{Gives, fault};
 ghost use Rattle.opencl_core.specs.Declaring as rules;
 ghost use Rattle.opencl_core.specs.View as seen;
 
@@ -12,7 +12,7 @@ use crate::rooms::Room;
 use core_code::tree::{Array, LocalArray, Site, Space};
 use kernel_names::LocalName;
 use opencl_terms::scalars::{Scalar, ValueType};
-use opencl_values::error::{Fault, ValueError, refused};
+use opencl_values::error::{Construct, Fault, ValueError, refused};
 use opencl_values::scope::Meaning;
 use std::alloc::{AllocError, Global};
 
@@ -25,17 +25,26 @@ pub const MOST_ELEMENTS: u32 = 1_048_576;
 fn has_elements(scalar: Scalar) -> bool
     ensures { result ≡ rules.has_elements (scalar_seen scalar) }
 {
-    !matches!(scalar, Scalar::Boolean | Scalar::Size)
+    !matches!(scalar, Scalar::Boolean | Scalar::Size | Scalar::Long)
 }
 
-/// The scalar of a type that elements in memory and kernel parameters may have (OpenCL 1.2, 6.9 k).
+fn lacking(scalar: Scalar) -> Fault
+    ensures { fault result ≡ rules.lacking (scalar_seen scalar) }
+{
+    match scalar {
+        Scalar::Long => Fault::LeftOut(Construct::Long),
+        _ => Fault::WrongType,
+    }
+}
+
+/// The scalar of a type that elements in memory may have (OpenCL 1.2, 6.9 k).
 pub fn element_of_type(at: Site, of: ValueType) -> Result<Scalar, ValueError>
     ensures { Gives scalar_seen result (rules.element_of_type (site_seen at) (value_type of)) }
 {
     if has_elements(of.scalar) {
         Ok(of.scalar)
     } else {
-        refused(Fault::WrongType, at)
+        refused(lacking(of.scalar), at)
     }
 }
 

@@ -20,19 +20,19 @@ abbrev pub known : List Known → List ℕ → Option Bool
 known [] x = None
 known (k ∷ ks) x = cond (bytes_eq k.name x) (Some k.is_vector) (known ks x)
 
--- `char` and `short`, with which `int` and a sign may stand, or may not
-pub data Narrow : Type 0 where
-  Chars Shorts : Narrow
+-- `char`, `short` and `long`, with which `int` and a sign may stand, or may not
+pub data Rank : Type 0 where
+  Chars Shorts Longs : Rank
 
 -- the words that name a type, so far
 pub data Written : Type 0 where
   Nothing : Written
-  Words : (unsigned : Option Bool) (narrow : Option Narrow) (with_int : Bool) → Written
+  Words : (unsigned : Option Bool) (rank : Option Rank) (with_int : Bool) → Written
   Whole : (base : Base) (is_vector : Bool) → Written
 
 abbrev pub with_sign : Bool → Written → Option Written
 with_sign unsigned Nothing = Some (Words (Some unsigned) None false)
-with_sign unsigned (Words None narrow int) = Some (Words (Some unsigned) narrow int)
+with_sign unsigned (Words None rank int) = Some (Words (Some unsigned) rank int)
 with_sign unsigned written = None
 
 abbrev pub with_char : Written → Option Written
@@ -45,10 +45,16 @@ with_short Nothing = Some (Words None (Some Shorts) false)
 with_short (Words sign None int) = Some (Words sign (Some Shorts) int)
 with_short written = None
 
+abbrev pub with_long : Written → Option Written
+with_long Nothing = Some (Words None (Some Longs) false)
+with_long (Words sign None int) = Some (Words sign (Some Longs) int)
+with_long written = None
+
 abbrev pub with_int : Written → Option Written
 with_int Nothing = Some (Words None None true)
 with_int (Words sign None false) = Some (Words sign None true)
 with_int (Words sign (Some Shorts) false) = Some (Words sign (Some Shorts) true)
+with_int (Words sign (Some Longs) false) = Some (Words sign (Some Longs) true)
 with_int written = None
 
 abbrev pub with_whole : Base → Bool → Written → Option Written
@@ -56,18 +62,20 @@ with_whole base is_vector Nothing = Some (Whole base is_vector)
 with_whole base is_vector written = None
 
 -- a plain `char` is signed (OpenCL 1.2, 6.1.1)
-abbrev pub scalar_of : Option Bool → Option Narrow → Scalar
+abbrev pub scalar_of : Option Bool → Option Rank → Scalar
 scalar_of (Some true) None = scalars.Uint
 scalar_of (Some true) (Some Chars) = scalars.Uchar
 scalar_of (Some true) (Some Shorts) = scalars.Ushort
+scalar_of (Some true) (Some Longs) = scalars.Ulong
 scalar_of sign None = scalars.Int
 scalar_of sign (Some Chars) = scalars.Char
 scalar_of sign (Some Shorts) = scalars.Short
+scalar_of sign (Some Longs) = scalars.Long
 
 -- the type that was written, and whether it is a vector; none where no word of it stands
 abbrev pub base_of : Written → Option (Base × Bool)
 base_of Nothing = None
-base_of (Words sign narrow int) = Some (Numbers (scalar_of sign narrow) 1, false)
+base_of (Words sign rank int) = Some (Numbers (scalar_of sign rank) 1, false)
 base_of (Whole base is_vector) = Some (base, is_vector)
 
 -- what a lexeme is to a type: no part of it, one part more, or a fault
@@ -80,7 +88,7 @@ abbrev pub added : Option Written → Part Written
 added (Some written) = More written
 added None = Wrong Expected
 
--- types of 64 bits are left out
+-- `ulong`, vectors of 64 bits and `double` are left out
 abbrev pub whole : Scalar → ℕ → Written → Part Written
 whole scalars.Long width written = Wrong (LeftOut Long)
 whole scalars.Ulong width written = Wrong (LeftOut Long)
@@ -117,7 +125,7 @@ word_part words.Short written = added (with_short written)
 word_part words.Int written = added (with_int written)
 word_part words.Float written = added (with_whole (Numbers scalars.Float 1) false written)
 word_part words.Half written = added (with_whole (Numbers scalars.Half 1) false written)
-word_part words.Long written = Wrong (LeftOut Long)
+word_part words.Long written = added (with_long written)
 word_part words.Double written = Wrong (LeftOut Double)
 word_part words.Struct written = Wrong (LeftOut Structure)
 word_part words.Union written = Wrong (LeftOut Structure)

@@ -34,8 +34,8 @@ use Rattle.opencl_parser.specs.declared.signs.Opening.TheVariants as openings
 use Rattle.opencl_parser.specs.declared.signs.Suffix.{Suffix}
 use Rattle.opencl_parser.specs.declared.signs.Suffix.TheVariants as suffixes
 use Rattle.opencl_parser.specs.declared.type_words.Known.{Known}
-use Rattle.opencl_parser.specs.declared.type_words.Narrow.{Narrow}
-use Rattle.opencl_parser.specs.declared.type_words.Narrow.TheVariants as narrows
+use Rattle.opencl_parser.specs.declared.type_words.Rank.{Rank}
+use Rattle.opencl_parser.specs.declared.type_words.Rank.TheVariants as ranks
 use Rattle.opencl_parser.specs.declared.type_words.Named.{Named}
 use Rattle.opencl_parser.specs.declared.type_words.Named.TheVariants as named
 use Rattle.opencl_parser.specs.declared.type_words.Written.{Written}
@@ -129,13 +129,14 @@ known k = record { name = k.name.now; is_vector = k.is_vector }
 abbrev pub all_known : List Known → List names.Known
 all_known ks = map known ks
 
-abbrev pub narrow : Narrow → names.Narrow
-narrow narrows.Chars = names.Chars
-narrow narrows.Shorts = names.Shorts
+abbrev pub rank : Rank → names.Rank
+rank ranks.Chars = names.Chars
+rank ranks.Shorts = names.Shorts
+rank ranks.Longs = names.Longs
 
-abbrev pub maybe_narrow : Option Narrow → Option names.Narrow
-maybe_narrow None = None
-maybe_narrow (Some n) = Some (narrow n)
+abbrev pub maybe_rank : Option Rank → Option names.Rank
+maybe_rank None = None
+maybe_rank (Some n) = Some (rank n)
 
 abbrev pub base_named : Named → types.Base
 base_named named.Void = types.Void
@@ -144,7 +145,7 @@ base_named (named.Alias x) = types.Alias x.now
 
 abbrev pub written : Written → names.Written
 written written_as.Nothing = names.Nothing
-written (written_as.Words unsigned n with_int) = names.Words unsigned (maybe_narrow n) with_int
+written (written_as.Words unsigned n with_int) = names.Words unsigned (maybe_rank n) with_int
 written (written_as.Whole base is_vector) = names.Whole (base_named base) is_vector
 
 abbrev pub maybe_written : Option Written → Option names.Written

@@ -5,7 +5,7 @@ ghost use Rattle.opencl_tokens.specs.Seen.{lexeme_kind};
 ghost use Rattle.opencl_tokens.specs.Spelling.{word as word_seen, scalar as scalar_seen};
 ghost use Rattle.opencl_tree.specs.View.{qualifiers as qualifiers_seen, space as space_seen};
 ghost use Rattle.opencl_parser.specs.TypeNames as names;
-ghost use Rattle.opencl_parser.specs.View.{all_known, maybe_narrow, base_named, written as written_seen, maybe_written, word_part as word_part_seen, typed as typed_seen, type_part as type_part_seen, maybe_base, maybe_qualified, maybe_construct};
+ghost use Rattle.opencl_parser.specs.View.{all_known, maybe_rank, base_named, written as written_seen, maybe_written, word_part as word_part_seen, typed as typed_seen, type_part as type_part_seen, maybe_base, maybe_qualified, maybe_construct};
 
 use crate::stops::{Construct, ParseFault};
 use opencl_tokens::{LexemeKind, Scalar, Word};
@@ -18,10 +18,12 @@ pub struct Known<'a> {
     pub is_vector: bool,
 }
 
+/// `char`, `short` and `long`, with which `int` and a sign may stand.
 #[derive(Clone, Copy)]
-pub enum Narrow {
+pub enum Rank {
     Chars,
     Shorts,
+    Longs,
 }
 
 /// A type that one word names; the name of an alias is lent.
@@ -38,7 +40,7 @@ pub enum Written<'a> {
     Nothing,
     Words {
         unsigned: Option<bool>,
-        narrow: Option<Narrow>,
+        rank: Option<Rank>,
         with_int: bool,
     },
     Whole {
@@ -88,16 +90,16 @@ fn with_sign(unsigned: bool, written: Written) -> Option<Written>
     match written {
         Written::Nothing => Some(Written::Words {
             unsigned: Some(unsigned),
-            narrow: None,
+            rank: None,
             with_int: false,
         }),
         Written::Words {
             unsigned: None,
-            narrow,
+            rank,
             with_int,
         } => Some(Written::Words {
             unsigned: Some(unsigned),
-            narrow,
+            rank,
             with_int,
         }),
         _ => None,
@@ -110,16 +112,16 @@ fn with_char(written: Written) -> Option<Written>
     match written {
         Written::Nothing => Some(Written::Words {
             unsigned: None,
-            narrow: Some(Narrow::Chars),
+            rank: Some(Rank::Chars),
             with_int: false,
         }),
         Written::Words {
             unsigned,
-            narrow: None,
+            rank: None,
             with_int: false,
         } => Some(Written::Words {
             unsigned,
-            narrow: Some(Narrow::Chars),
+            rank: Some(Rank::Chars),
             with_int: false,
         }),
         _ => None,
@@ -132,16 +134,38 @@ fn with_short(written: Written) -> Option<Written>
     match written {
         Written::Nothing => Some(Written::Words {
             unsigned: None,
-            narrow: Some(Narrow::Shorts),
+            rank: Some(Rank::Shorts),
             with_int: false,
         }),
         Written::Words {
             unsigned,
-            narrow: None,
+            rank: None,
             with_int,
         } => Some(Written::Words {
             unsigned,
-            narrow: Some(Narrow::Shorts),
+            rank: Some(Rank::Shorts),
+            with_int,
+        }),
+        _ => None,
+    }
+}
+
+fn with_long(written: Written) -> Option<Written>
+    ensures { maybe_written result ≡ names.with_long (written_seen written.entry) }
+{
+    match written {
+        Written::Nothing => Some(Written::Words {
+            unsigned: None,
+            rank: Some(Rank::Longs),
+            with_int: false,
+        }),
+        Written::Words {
+            unsigned,
+            rank: None,
+            with_int,
+        } => Some(Written::Words {
+            unsigned,
+            rank: Some(Rank::Longs),
             with_int,
         }),
         _ => None,
@@ -154,25 +178,34 @@ fn with_int(written: Written) -> Option<Written>
     match written {
         Written::Nothing => Some(Written::Words {
             unsigned: None,
-            narrow: None,
+            rank: None,
             with_int: true,
         }),
         Written::Words {
             unsigned,
-            narrow: None,
+            rank: None,
             with_int: false,
         } => Some(Written::Words {
             unsigned,
-            narrow: None,
+            rank: None,
             with_int: true,
         }),
         Written::Words {
             unsigned,
-            narrow: Some(Narrow::Shorts),
+            rank: Some(Rank::Shorts),
             with_int: false,
         } => Some(Written::Words {
             unsigned,
-            narrow: Some(Narrow::Shorts),
+            rank: Some(Rank::Shorts),
+            with_int: true,
+        }),
+        Written::Words {
+            unsigned,
+            rank: Some(Rank::Longs),
+            with_int: false,
+        } => Some(Written::Words {
+            unsigned,
+            rank: Some(Rank::Longs),
             with_int: true,
         }),
         _ => None,
@@ -188,16 +221,18 @@ fn with_whole<'a>(base: Named<'a>, is_vector: bool, written: Written) -> Option<
     }
 }
 
-fn scalar_of(unsigned: Option<bool>, narrow: Option<Narrow>) -> Scalar
-    ensures { scalar_seen result ≡ names.scalar_of unsigned (maybe_narrow narrow) }
+fn scalar_of(unsigned: Option<bool>, rank: Option<Rank>) -> Scalar
+    ensures { scalar_seen result ≡ names.scalar_of unsigned (maybe_rank rank) }
 {
-    match (unsigned, narrow) {
+    match (unsigned, rank) {
         (Some(true), None) => Scalar::Uint,
-        (Some(true), Some(Narrow::Chars)) => Scalar::Uchar,
-        (Some(true), Some(Narrow::Shorts)) => Scalar::Ushort,
+        (Some(true), Some(Rank::Chars)) => Scalar::Uchar,
+        (Some(true), Some(Rank::Shorts)) => Scalar::Ushort,
+        (Some(true), Some(Rank::Longs)) => Scalar::Ulong,
         (_, None) => Scalar::Int,
-        (_, Some(Narrow::Chars)) => Scalar::Char,
-        (_, Some(Narrow::Shorts)) => Scalar::Short,
+        (_, Some(Rank::Chars)) => Scalar::Char,
+        (_, Some(Rank::Shorts)) => Scalar::Short,
+        (_, Some(Rank::Longs)) => Scalar::Long,
     }
 }
 
@@ -207,11 +242,10 @@ pub fn base_of<'a>(written: Written<'a>) -> Option<(Named<'a>, bool)>
 {
     match written {
         Written::Nothing => None,
-        Written::Words {
-            unsigned,
-            narrow,
-            ..
-        } => Some((Named::Numbers(scalar_of(unsigned, narrow), 1), false)),
+        Written::Words { unsigned, rank, .. } => Some((
+            Named::Numbers(scalar_of(unsigned, rank), 1),
+            false,
+        )),
         Written::Whole { base, is_vector } => Some((base, is_vector)),
     }
 }
@@ -307,7 +341,7 @@ fn word_part<'a>(word: Word, written: Written<'a>) -> WordPart<'a>
         Word::Int => added(with_int(written)),
         Word::Float => added(with_whole(Named::Numbers(Scalar::Float, 1), false, written)),
         Word::Half => added(with_whole(Named::Numbers(Scalar::Half, 1), false, written)),
-        Word::Long => WordPart::Wrong(ParseFault::LeftOut(Construct::Long)),
+        Word::Long => added(with_long(written)),
         Word::Double => WordPart::Wrong(ParseFault::LeftOut(Construct::Double)),
         Word::Struct | Word::Union => WordPart::Wrong(ParseFault::LeftOut(Construct::Structure)),
         Word::Enum => WordPart::Wrong(ParseFault::LeftOut(Construct::Enumeration)),

@@ -34,6 +34,7 @@ kept-again Ushort z h = ap (number_of_bits Ushort) (elements.kept-again ushort z
 kept-again types.Boolean z h = absurd (false≢true h)
 kept-again types.Int z h = absurd (false≢true h)
 kept-again types.Uint z h = absurd (false≢true h)
+kept-again types.Long z h = absurd (false≢true h)
 kept-again types.Size z h = absurd (false≢true h)
 kept-again types.Float z h = absurd (false≢true h)
 
@@ -45,6 +46,7 @@ same Ushort z h i = elements.same ushort z (omega arith) i
 same types.Boolean z h i = absurd (false≢true h)
 same types.Int z h i = absurd (false≢true h)
 same types.Uint z h i = absurd (false≢true h)
+same types.Long z h i = absurd (false≢true h)
 same types.Size z h i = absurd (false≢true h)
 same types.Float z h i = absurd (false≢true h)
 
@@ -56,6 +58,7 @@ inside Ushort z h = elements.number-inside ushort.is_signed ushort.below (bits_k
 inside types.Boolean z h = absurd (false≢true h)
 inside types.Int z h = absurd (false≢true h)
 inside types.Uint z h = absurd (false≢true h)
+inside types.Long z h = absurd (false≢true h)
 inside types.Size z h = absurd (false≢true h)
 inside types.Float z h = absurd (false≢true h)
 
@@ -75,6 +78,7 @@ module _ (s : Setup) (i : ℕ) (now : List ℕ) (vars : List Word) where
   loads types.Boolean site e answers rest v n h = absurd (false≢true n)
   loads types.Int site e answers rest v n h = absurd (false≢true n)
   loads types.Uint site e answers rest v n h = absurd (false≢true n)
+  loads types.Long site e answers rest v n h = absurd (false≢true n)
   loads types.Size site e answers rest v n h = absurd (false≢true n)
   loads types.Float site e answers rest v n h = absurd (false≢true n)
 
@@ -86,6 +90,7 @@ module _ (s : Setup) (i : ℕ) (now : List ℕ) (vars : List Word) where
   asks types.Boolean site e answers a n at t h = absurd (false≢true t)
   asks types.Int site e answers a n at t h = absurd (false≢true t)
   asks types.Uint site e answers a n at t h = absurd (false≢true t)
+  asks types.Long site e answers a n at t h = absurd (false≢true t)
   asks types.Size site e answers a n at t h = absurd (false≢true t)
   asks types.Float site e answers a n at t h = absurd (false≢true t)
 
@@ -97,6 +102,7 @@ module _ (s : Setup) (i : ℕ) (now : List ℕ) (vars : List Word) where
   fails types.Boolean site e answers x at t h = absurd (false≢true t)
   fails types.Int site e answers x at t h = absurd (false≢true t)
   fails types.Uint site e answers x at t h = absurd (false≢true t)
+  fails types.Long site e answers x at t h = absurd (false≢true t)
   fails types.Size site e answers x at t h = absurd (false≢true t)
   fails types.Float site e answers x at t h = absurd (false≢true t)
 
@@ -108,5 +114,6 @@ module _ (s : Setup) (i : ℕ) (now : List ℕ) (vars : List Word) where
   stores types.Boolean site e answers rest v n h = absurd (false≢true n)
   stores types.Int site e answers rest v n h = absurd (false≢true n)
   stores types.Uint site e answers rest v n h = absurd (false≢true n)
+  stores types.Long site e answers rest v n h = absurd (false≢true n)
   stores types.Size site e answers rest v n h = absurd (false≢true n)
   stores types.Float site e answers rest v n h = absurd (false≢true n)

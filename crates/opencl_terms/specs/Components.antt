@@ -4,9 +4,9 @@ use Rattle.std.specs.Prelude.{ℕ, ◌^◌, ◌-◌, pos, Bool, true, false, Opt
 use Rattle.semantics.specs.Word as word
 use Rattle.semantics.specs.Word.{Kind, Operator, Relation, Direction}
 use Rattle.semantics.specs.Core.{Site, Term, Literal, Unary, Binary, Convert, Compare, Not, Shift}
-use Rattle.opencl_terms.specs.Types.{Scalar, Char, Short, Int, Uint, Size, Float, kind_of, is_narrow, bits_in}
+use Rattle.opencl_terms.specs.Types.{Scalar, Char, Short, Int, Uint, Long, Size, Float, kind_of, is_narrow, bits_in}
 use Rattle.opencl_terms.specs.Operations.{Negation, Calculates, of_one, of_two, compared}
-use Rattle.opencl_terms.specs.Conversions.{int, uint, masked, narrowed, tested, as_uint, as_float}
+use Rattle.opencl_terms.specs.Conversions.{int, uint, masked, narrowed, tested, as_uint, as_long, as_float}
 
 -- an operand beside a size: a `uint` is the same number as a size
 abbrev pub widened : (ids : Kind) → (from : Scalar) → Site → Term → Term
@@ -18,6 +18,7 @@ widened ids from site t = Convert ids site t
 abbrev pub operand : (ids : Kind) → (from to : Scalar) → Site → Term → Term
 operand ids from Float site t = as_float from t
 operand ids from Size site t = widened ids from site t
+operand ids from Long site t = as_long from site t
 operand ids from to site t = t
 
 -- 6.5.5, 6.5.6, 6.5.10 to 6.5.12, of two operands of a promoted scalar

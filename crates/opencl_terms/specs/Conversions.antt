@@ -3,7 +3,7 @@ use Rattle.std.specs.Prelude.{ℕ, pos, Bool, true, false, cond}
 use Rattle.semantics.specs.Word as word
 use Rattle.semantics.specs.Word.{Kind}
 use Rattle.semantics.specs.Core.{Site, Term, Literal, Binary, Convert, Compare}
-use Rattle.opencl_terms.specs.Types.{Scalar, Boolean, Char, Uchar, Short, Ushort, Int, Uint, Size, Float}
+use Rattle.opencl_terms.specs.Types.{Scalar, Boolean, Char, Uchar, Short, Ushort, Int, Uint, Long, Size, Float}
 use Rattle.opencl_terms.specs.Operations.{OfInt, OfUint, OfSize, ToInt, ToUint, nothing, of_one, compared}
 
 abbrev pub uint : ℕ → Term
@@ -35,6 +35,7 @@ narrowed Short site t = signed_bits site 65535 32768 t
 narrowed Ushort site t = low_bits site 65535 t
 narrowed Int site t = t
 narrowed Uint site t = t
+narrowed Long site t = t
 narrowed Size site t = t
 narrowed Float site t = t
 
@@ -82,6 +83,11 @@ as_size ids Float site t = Convert ids site (of_one ToUint word.Uint t)
 as_size ids Size site t = t
 as_size ids from site t = Convert ids site t
 
+-- as a `long`: an unsigned number that is no `int` is a fault (ours), and a float is none that is known
+abbrev pub as_long : (from : Scalar) → Site → Term → Term
+as_long Float site t = Convert word.Int site (of_one ToUint word.Uint t)
+as_long from site t = as_int from site t
+
 abbrev pub as_float : (from : Scalar) → Term → Term
 as_float Float t = t
 as_float Uint t = of_one OfUint word.Uint t
@@ -105,6 +111,7 @@ converted ids from Short site t = as_narrow from Short site t
 converted ids from Ushort site t = as_narrow from Ushort site t
 converted ids from Int site t = as_int from site t
 converted ids from Uint site t = as_uint from site t
+converted ids from Long site t = as_long from site t
 converted ids from Size site t = as_size ids from site t
 converted ids from Float site t = as_float from t
 
@@ -120,6 +127,7 @@ stored Short site t = masked site 65535 (Convert word.Uint site t)
 stored Ushort site t = masked site 65535 (Convert word.Uint site t)
 stored Int site t = t
 stored Uint site t = t
+stored Long site t = t
 stored Size site t = t
 stored Float site t = t
 

@@ -1,11 +1,12 @@
 -- Types that values have, and the kinds that carry them (OpenCL 1.2, 6.1). A value of n components is n terms. `bool`, `char`, `short` and
--- their like are `int` terms that lie in their range; a `float` is the `uint` of its 32 bits.
+-- their like are `int` terms that lie in their range; a `float` is the `uint` of its 32 bits. A `long` is an `int` term, too: what would leave
+-- the range of `int` is a fault (ours), so that each term has the number that the `long` has.
 use Rattle.std.specs.Prelude.{ℕ, List, Bool, true, false, nat_le}
 use Rattle.semantics.specs.Word as word
 use Rattle.semantics.specs.Word.{Kind}
 use Rattle.semantics.specs.Core.{Term}
 
--- the scalars of values: no `long`, `half` or `double`; `Boolean` is `bool`
+-- the scalars of values: no `ulong`, `half` or `double`; `Boolean` is `bool`
 pub data Scalar : Type 0 where
   Boolean : Scalar
   Char : Scalar
@@ -14,6 +15,7 @@ pub data Scalar : Type 0 where
   Ushort : Scalar
   Int : Scalar
   Uint : Scalar
+  Long : Scalar
   Size : Scalar
   Float : Scalar
 
@@ -45,6 +47,7 @@ kind_of ids Short = word.Int
 kind_of ids Ushort = word.Int
 kind_of ids Int = word.Int
 kind_of ids Uint = word.Uint
+kind_of ids Long = word.Int
 kind_of ids Size = ids
 kind_of ids Float = word.Uint
 
@@ -57,6 +60,7 @@ stored_kind Short = word.Uint
 stored_kind Ushort = word.Uint
 stored_kind Int = word.Int
 stored_kind Uint = word.Uint
+stored_kind Long = word.Int
 stored_kind Size = word.Uint
 stored_kind Float = word.Uint
 
@@ -69,16 +73,22 @@ promoted Short = Int
 promoted Ushort = Int
 promoted Int = Int
 promoted Uint = Uint
+promoted Long = Long
 promoted Size = Size
 promoted Float = Float
 
--- the usual arithmetic conversions of two promoted scalars (C99 6.3.1.8; a size has as many bits as a `uint` at least)
+-- the usual arithmetic conversions of two promoted scalars (C99 6.3.1.8; a size has as many bits as a `uint` at least). Of a `long` and a
+-- size they differ from device to device
 abbrev pub common : Scalar → Scalar → Scalar
 common Float b = Float
 common Size Float = Float
 common Size b = Size
+common Long Float = Float
+common Long Size = Size
+common Long b = Long
 common Uint Float = Float
 common Uint Size = Size
+common Uint Long = Long
 common Uint b = Uint
 common a b = promoted b
 
@@ -93,7 +103,8 @@ abbrev pub is_float : Scalar → Bool
 is_float Float = true
 is_float s = false
 
--- the bits of a component in memory, and what a vector's shift counts are taken modulo (OpenCL 1.2, 6.3 j)
+-- the bits of a component in memory, and what a vector's shift counts are taken modulo (OpenCL 1.2, 6.3 j); of a `long`, which is in no
+-- memory and no vector, those of its term
 abbrev pub bits_in : Scalar → ℕ
 bits_in Boolean = 8
 bits_in Char = 8
@@ -102,6 +113,7 @@ bits_in Short = 16
 bits_in Ushort = 16
 bits_in Int = 32
 bits_in Uint = 32
+bits_in Long = 32
 bits_in Size = 32
 bits_in Float = 32
 
@@ -114,6 +126,7 @@ signed_of Short = Short
 signed_of Ushort = Short
 signed_of Int = Int
 signed_of Uint = Int
+signed_of Long = Long
 signed_of Size = Int
 signed_of Float = Int
 
@@ -128,3 +141,10 @@ scalar_number Int = 5
 scalar_number Uint = 6
 scalar_number Size = 7
 scalar_number Float = 8
+scalar_number Long = 9
+
+-- two scalars of which C makes a `long` on some devices, and a size on others
+abbrev pub is_unsettled : (a b : Scalar) → Bool
+is_unsettled Long Size = true
+is_unsettled Size Long = true
+is_unsettled a b = false

@@ -15,6 +15,7 @@ scalar scalars.Short = types.Short
 scalar scalars.Ushort = types.Ushort
 scalar scalars.Int = types.Int
 scalar scalars.Uint = types.Uint
+scalar scalars.Long = types.Long
 scalar scalars.Size = types.Size
 scalar scalars.Float = types.Float
 

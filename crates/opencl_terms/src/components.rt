@@ -9,7 +9,7 @@ ghost use Rattle.opencl_terms.specs.Conversions as conversions;
 ghost use Rattle.opencl_terms.specs.View.{scalar};
 ghost use Rattle.words.specs.View.{kind as kind_seen};
 
-use crate::conversions::{as_float, as_uint, tested};
+use crate::conversions::{as_float, as_long, as_uint, tested};
 use crate::narrowing::{masked, narrowed};
 use crate::operations::{Operation, compared, of_one, of_two};
 use crate::pieces::{binary, compare, convert, literal, shift, unary};
@@ -41,6 +41,7 @@ pub fn operand(
     match to {
         Scalar::Float => as_float(alloc, from, of),
         Scalar::Size => widened(alloc, ids, from, at, of),
+        Scalar::Long => as_long(alloc, from, at, of),
         _ => Ok(of),
     }
 }

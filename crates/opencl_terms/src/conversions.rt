@@ -97,6 +97,19 @@ fn as_size(alloc: Global, ids: Kind, from: Scalar, at: Site, of: Term) -> Result
     }
 }
 
+/// A component as a `long`, which is an `int` term: what is no `int` is a fault.
+pub fn as_long(alloc: Global, from: Scalar, at: Site, of: Term) -> Result<Term, AllocError>
+    ensures { IfOk result (λ t. term t ≡ rules.as_long (scalar from) (site at) (term of)) }
+{
+    match from {
+        Scalar::Float => {
+            let of = of_one(alloc, Operation::ToUint, Kind::Uint, of)?;
+            convert(alloc, Kind::Int, at, of)
+        }
+        _ => as_int(alloc, from, at, of),
+    }
+}
+
 /// A component as a float (C99 6.3.1.4p2).
 pub fn as_float(alloc: Global, from: Scalar, of: Term) -> Result<Term, AllocError>
     ensures { IfOk result (λ t. term t ≡ rules.as_float (scalar from) (term of)) }
@@ -155,6 +168,7 @@ pub fn converted(
         }
         Scalar::Int => as_int(alloc, from, at, of),
         Scalar::Uint => as_uint(alloc, from, at, of),
+        Scalar::Long => as_long(alloc, from, at, of),
         Scalar::Size => as_size(alloc, ids, from, at, of),
         Scalar::Float => as_float(alloc, from, of),
     }

@@ -71,7 +71,12 @@ pub fn narrowed(alloc: Global, to: Scalar, at: Site, of: Term) -> Result<Term, A
         Scalar::Uchar => low_bits(alloc, at, 255, of),
         Scalar::Short => signed_bits(alloc, at, 65535, 32768, of),
         Scalar::Ushort => low_bits(alloc, at, 65535, of),
-        Scalar::Boolean | Scalar::Int | Scalar::Uint | Scalar::Size | Scalar::Float => Ok(of),
+        Scalar::Boolean
+        | Scalar::Int
+        | Scalar::Uint
+        | Scalar::Long
+        | Scalar::Size
+        | Scalar::Float => Ok(of),
     }
 }
 
@@ -96,7 +101,12 @@ pub fn stored(alloc: Global, to: Scalar, at: Site, of: Term) -> Result<Term, All
     match to {
         Scalar::Char | Scalar::Uchar => kept(alloc, at, 255, of),
         Scalar::Short | Scalar::Ushort => kept(alloc, at, 65535, of),
-        Scalar::Boolean | Scalar::Int | Scalar::Uint | Scalar::Size | Scalar::Float => Ok(of),
+        Scalar::Boolean
+        | Scalar::Int
+        | Scalar::Uint
+        | Scalar::Long
+        | Scalar::Size
+        | Scalar::Float => Ok(of),
     }
 }
 

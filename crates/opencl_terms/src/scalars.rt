@@ -7,7 +7,7 @@ ghost use Rattle.words.specs.View.{kind as kind_seen};
 
 use words::Kind;
 
-/// A scalar type (OpenCL 1.2, 6.1.1) without `long`, `half` and `double`; `Boolean` is `bool`.
+/// A scalar type (OpenCL 1.2, 6.1.1) without `ulong`, `half` and `double`; `Boolean` is `bool`.
 #[derive(Debug, Clone, Copy, PartialEq, Eq)]
 pub enum Scalar {
     Boolean,
@@ -17,6 +17,7 @@ pub enum Scalar {
     Ushort,
     Int,
     Uint,
+    Long,
     Size,
     Float,
 }
@@ -37,7 +38,8 @@ impl Scalar {
             | Scalar::Uchar
             | Scalar::Short
             | Scalar::Ushort
-            | Scalar::Int => Kind::Int,
+            | Scalar::Int
+            | Scalar::Long => Kind::Int,
             Scalar::Uint | Scalar::Float => Kind::Uint,
             Scalar::Size => ids,
         }
@@ -57,6 +59,7 @@ impl Scalar {
             Scalar::Uint => 6,
             Scalar::Size => 7,
             Scalar::Float => 8,
+            Scalar::Long => 9,
         }
     }
 
@@ -65,7 +68,7 @@ impl Scalar {
         ensures { kind_seen result ≡ rules.stored_kind (seen self) }
     {
         match self {
-            Scalar::Int => Kind::Int,
+            Scalar::Int | Scalar::Long => Kind::Int,
             Scalar::Boolean
             | Scalar::Char
             | Scalar::Uchar
@@ -89,6 +92,7 @@ impl Scalar {
             | Scalar::Ushort
             | Scalar::Int => Scalar::Int,
             Scalar::Uint => Scalar::Uint,
+            Scalar::Long => Scalar::Long,
             Scalar::Size => Scalar::Size,
             Scalar::Float => Scalar::Float,
         }
@@ -110,7 +114,7 @@ impl Scalar {
         )
     }
 
-    /// The bits of an element in memory.
+    /// The bits of an element in memory; of a `long`, which is in none, those of its term.
     pub fn bits(self) -> u32
         ensures count { result ≡ rules.bits_in (seen self) }
         ensures some { 8 ≤ result }
@@ -119,7 +123,7 @@ impl Scalar {
         match self {
             Scalar::Boolean | Scalar::Char | Scalar::Uchar => 8,
             Scalar::Short | Scalar::Ushort => 16,
-            Scalar::Int | Scalar::Uint | Scalar::Size | Scalar::Float => 32,
+            Scalar::Int | Scalar::Uint | Scalar::Long | Scalar::Size | Scalar::Float => 32,
         }
     }
 
@@ -131,6 +135,7 @@ impl Scalar {
             Scalar::Boolean | Scalar::Char | Scalar::Uchar => Scalar::Char,
             Scalar::Short | Scalar::Ushort => Scalar::Short,
             Scalar::Int | Scalar::Uint | Scalar::Size | Scalar::Float => Scalar::Int,
+            Scalar::Long => Scalar::Long,
         }
     }
 }
@@ -140,11 +145,24 @@ pub fn common(left: Scalar, right: Scalar) -> Scalar
     ensures { seen result ≡ rules.common (seen left) (seen right) }
 {
     match (left, right) {
-        (Scalar::Float, _) | (Scalar::Size | Scalar::Uint, Scalar::Float) => Scalar::Float,
-        (Scalar::Size, _) | (Scalar::Uint, Scalar::Size) => Scalar::Size,
+        (Scalar::Float, _) | (Scalar::Size | Scalar::Long | Scalar::Uint, Scalar::Float) => {
+            Scalar::Float
+        }
+        (Scalar::Size, _) | (Scalar::Long | Scalar::Uint, Scalar::Size) => Scalar::Size,
+        (Scalar::Long, _) | (Scalar::Uint, Scalar::Long) => Scalar::Long,
         (Scalar::Uint, _) => Scalar::Uint,
         (_, right) => right.promoted(),
     }
+}
+
+/// Whether C makes a `long` of two scalars on some devices, and a size on others.
+pub fn is_unsettled(left: Scalar, right: Scalar) -> bool
+    ensures { result ≡ rules.is_unsettled (seen left) (seen right) }
+{
+    matches!(
+        (left, right),
+        (Scalar::Long, Scalar::Size) | (Scalar::Size, Scalar::Long)
+    )
 }
 
 /// The type of a value: a scalar, or a vector of 2, 3, 4, 8 or 16 components (OpenCL 1.2, 6.1.2).

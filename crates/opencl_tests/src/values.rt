@@ -7,7 +7,7 @@ use opencl_terms::narrowing::{bits_as_uint, loaded, stored};
 use opencl_terms::operators::{
     OfOne, OfTwo, may_take, of_one_component, of_two_components, result_type, test_type,
 };
-use opencl_terms::scalars::{Scalar, ValueType, common};
+use opencl_terms::scalars::{Scalar, ValueType, common, is_unsettled};
 use opencl_values::bits::bits_as_int;
 use std::alloc::{AllocError, Global};
 use std::test::Fail;
@@ -161,6 +161,8 @@ fn operands_are_brought(rt: HostRuntime) -> Result<(), Fail> {
 #[test]
 fn types_follow_from_types(rt: HostRuntime) -> Result<(), Fail> {
     assert!(rt; matches!(common(Scalar::Int, Scalar::Uint), Scalar::Uint));
+    assert!(rt; matches!(common(Scalar::Uint, Scalar::Long), Scalar::Long));
+    assert!(rt; is_unsettled(Scalar::Long, Scalar::Size));
     assert!(rt; matches!(test_type(pair(Scalar::Uchar)).scalar, Scalar::Char));
     let sum = result_type(OfTwo::Comparison(Relation::Less), scalar(Scalar::Float));
     assert!(rt; matches!(sum.scalar, Scalar::Int));

@@ -3,13 +3,14 @@ use Rattle.std.specs.Prelude.{ℕ, Bool, true, false}
 use Rattle.semantics.specs.Word as word
 use Rattle.semantics.specs.Word.{Rightward}
 use Rattle.semantics.specs.Core.{Site, Term, Binary, Shift}
-use Rattle.opencl_terms.specs.Types.{Scalar, Boolean, Char, Uchar, Short, Ushort, Int, Uint, Size, Float}
+use Rattle.opencl_terms.specs.Types.{Scalar, Boolean, Char, Uchar, Short, Ushort, Int, Uint, Long, Size, Float}
 use Rattle.opencl_terms.specs.Conversions.{int, uint, masked, low_bits, narrowed, bits_as_uint}
 
--- a `bool` and a size have no size in memory of their own (6.9 k)
+-- a `bool` and a size have no size in memory of their own (6.9 k); elements that are `long` are left out
 abbrev pub is_in_memory : Scalar → Bool
 is_in_memory Boolean = false
 is_in_memory Size = false
+is_in_memory Long = false
 is_in_memory s = true
 
 -- the `int` that has the bits of a `uint`: its upper half as a number of 16 bits, 2^16 times, and its lower half. No part of it leaves the

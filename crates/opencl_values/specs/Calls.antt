@@ -6,9 +6,10 @@ use Rattle.semantics.specs.Word.{Kind}
 use Rattle.semantics.specs.Core.{Site, Function, Term, Literal, Id, Unary, Binary, Convert, Compare, And, Select, Minimum, Maximum, Opaque}
 use Rattle.opencl_tree.specs.Tree.{Expression, Integer, Expressions, nothing, also}
 use Rattle.opencl_terms.specs.Types.{Scalar, Int, Uint, Size, Float, promoted, common, is_float, is_narrow, kind_of}
+use Rattle.opencl_terms.specs.Types as types
 use Rattle.opencl_terms.specs.Conversions.{int, uint, narrowed}
 use Rattle.opencl_terms.specs.Operations as operations
-use Rattle.opencl_values.specs.Faults.{Checked, WrongType, LeftOut, refused, then, when}
+use Rattle.opencl_values.specs.Faults.{Checked, Fault, WrongType, LeftOut, Long, refused, then, when}
 use Rattle.opencl_values.specs.Singles.{Single, single, as_scalar}
 use Rattle.opencl_values.specs.Saturation.{saturated_from, reread, has_bits_of}
 use Rattle.opencl_values.specs.Functions.{Form, IdOf, Converts, Saturates, BitsAs, Integers, Floats, Tests, Reduces, Spreads, Offset, Lesser, Greater, Clamped, Absolute, Product24, Sum24, Scaled, FromBits, Exponent, Selects, Shuffles, Joins, Mixes, Tops, Dimensions, Missing, count_of}
@@ -130,16 +131,21 @@ saturated_first to c v = saturated_from c.ids c.site v.scalar to v.term
 abbrev pub reread_first : (to : Scalar) → Call → Single → Term
 reread_first to c v = reread c.ids c.site v.scalar to v.term
 
+-- a function of integers gives one of as many bits, so those of a `long` are left out
+abbrev pub is_word : Scalar → Bool
+is_word types.Long = false
+is_word s = not (is_float s)
+
 -- whether a function takes arguments of these types
 abbrev pub takes : Form → Call → Bool
 takes (IdOf f) c = false
 takes Offset c = false
 takes (Missing construct) c = false
 takes (BitsAs to) c = has_bits_of (first_in c.arguments).scalar to
-takes (Integers n) c = not (is_float c.to)
-takes Absolute c = not (is_float c.to)
-takes Product24 c = not (is_float c.to)
-takes Sum24 c = not (is_float c.to)
+takes (Integers n) c = is_word c.to
+takes Absolute c = is_word c.to
+takes Product24 c = is_word c.to
+takes Sum24 c = is_word c.to
 takes f c = true
 
 -- the scalar that it gives
@@ -186,8 +192,12 @@ term_made (Tops is_all) c = operations.nothing
 term_made Dimensions c = dimensions c
 term_made (Missing construct) c = operations.nothing
 
+abbrev pub untaken : Scalar → Fault
+untaken types.Long = LeftOut Long
+untaken s = WrongType
+
 abbrev pub made : Form → Call → Checked Single
-made f c = when (takes f c) WrongType c.site (single (scalar_made f c.to) (term_made f c))
+made f c = when (takes f c) (untaken c.to) c.site (single (scalar_made f c.to) (term_made f c))
 
 -- the scalar to which all arguments are converted (C99 6.3.1.8)
 abbrev pub scalar_with : (so_far : Scalar) → List Single → Scalar

@@ -1,5 +1,5 @@
 -- Elements of arrays by their indexes (C99 6.5.2.1).
-use Rattle.std.specs.Prelude.{ℕ, ◌-◌, List, [], ◌∷◌, Bool, cond, nat_eq, nat_le, Option, Some, None, Ok}
+use Rattle.std.specs.Prelude.{ℕ, ◌-◌, List, [], ◌∷◌, Bool, false, cond, nat_le, Option, Some, None, Ok}
 use Rattle.semantics.specs.Word as word
 use Rattle.semantics.specs.Core.{Site, Array, Term, Variable, Load, Binary, Convert, Within}
 use Rattle.opencl_terms.specs.Types.{Scalar, Uint, Size, ValueType, Value, is_float, is_vector}
@@ -9,11 +9,11 @@ use Rattle.opencl_values.specs.Scope.{Meaning, VariableOf, ArrayOf, OwnOf, Point
 use Rattle.opencl_values.specs.Singles.{Single, single}
 use Rattle.opencl_values.specs.Wholes.{whole, words, vectors_below}
 use Rattle.opencl_values.specs.Vectors.{Loaded, vector_made}
-use Rattle.opencl_values.specs.Views.{pieces, view_loaded}
+use Rattle.opencl_values.specs.Views.{pieces, is_finer, view_loaded}
 
 -- an array, of which some dimensions have an index: the lengths of the others, where they begin in it, and, of a pointer, its offset, an
 -- `int`, to which the next index is added. Where a buffer's elements are seen as ones of another type, `over` is the buffer's scalar, of
--- which the offset counts elements
+-- which the offset counts elements; of finer ones it counts these
 pub record Part : Type 0 where
   pub array : Array
   pub element : ValueType
@@ -93,7 +93,7 @@ as_offset site v = offset_as site v.scalar v.term
 
 -- so many elements of a type, by what an offset counts
 abbrev pub times_pieces : Site → (count : ℕ) → Term → Term
-times_pieces site n k = cond (nat_eq n 1) k (Binary word.Multiply word.Int site k (int n))
+times_pieces site n k = cond (nat_le n 1) k (Binary word.Multiply word.Int site k (int n))
 
 abbrev pub steps : Site → (over : Option Scalar) → ValueType → Term → Term
 steps site None t k = k
@@ -138,8 +138,13 @@ abbrev pub whole_part : Site → Part → (lengths : List ℕ) → Option Term �
 whole_part site p [] (Some t) = Ok (whole_element site p t)
 whole_part site p lengths t = refused (LeftOut Pointer) site
 
+abbrev pub is_finer_over : Option Scalar → ValueType → Bool
+is_finer_over None t = false
+is_finer_over (Some a) t = is_finer a t
+
+-- finer elements are no elements of the buffer (ours)
 abbrev pub element_in : Site → Part → Checked Element
-element_in site p = whole_part site p p.lengths p.index
+element_in site p = cond (is_finer_over p.over p.element) (refused (LeftOut Pointer) site) (whole_part site p p.lengths p.index)
 
 abbrev pub loaded_as : Site → Array → Scalar → Term → Term
 loaded_as site a s index = loaded s site (Load a site index)

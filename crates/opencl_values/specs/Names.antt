@@ -4,11 +4,12 @@ use Rattle.semantics.specs.Core.{Site}
 use Rattle.opencl_tokens.specs.Scalars as words
 use Rattle.opencl_tree.specs.Types.{Base, Void, Numbers, Alias, TypeName, Qualifiers}
 use Rattle.opencl_terms.specs.Types.{Scalar, Boolean, Char, Uchar, Short, Ushort, Int, Uint, Size, Float, ValueType, type_of, is_vector}
+use Rattle.opencl_terms.specs.Types as scalars
 use Rattle.opencl_values.specs.Faults.{Checked, UnknownName, WrongType, LeftOut, Vector, Pointer, Long, Half, Double, DeviceSize, Outside, refused, then, when, found}
 use Rattle.opencl_values.specs.Wholes.{words}
 use Rattle.opencl_values.specs.Scope.{Meaning, VariableOf, ArrayOf, OwnOf, PointerOf, NumberOf, TypeOf, UnreadOf, Binding, meaning_of}
 
--- integers of 64 bits, `half` and `double` are left out; a `ptrdiff_t` has 64 bits on some devices
+-- `ulong`, `half` and `double` are left out; a `ptrdiff_t` has 64 bits on some devices
 abbrev pub scalar_named : Site → words.Scalar → Checked Scalar
 scalar_named site words.Bool = Ok Boolean
 scalar_named site words.Char = Ok Char
@@ -17,7 +18,7 @@ scalar_named site words.Short = Ok Short
 scalar_named site words.Ushort = Ok Ushort
 scalar_named site words.Int = Ok Int
 scalar_named site words.Uint = Ok Uint
-scalar_named site words.Long = refused (LeftOut Long) site
+scalar_named site words.Long = Ok scalars.Long
 scalar_named site words.Ulong = refused (LeftOut Long) site
 scalar_named site words.SizeT = Ok Size
 scalar_named site words.PtrdiffT = refused (LeftOut Long) site
@@ -68,6 +69,7 @@ bytes_in site Short = Ok 2
 bytes_in site Ushort = Ok 2
 bytes_in site Int = Ok 4
 bytes_in site Uint = Ok 4
+bytes_in site scalars.Long = Ok 8
 bytes_in site Size = refused (LeftOut DeviceSize) site
 bytes_in site Float = Ok 4
 

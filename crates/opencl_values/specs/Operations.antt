@@ -4,11 +4,12 @@ use Rattle.semantics.specs.Word.{Kind, Direction, Leftward, Rightward}
 use Rattle.semantics.specs.Core.{Site, Term, Select}
 use Rattle.texts.specs.Surface.{InfixSign, Arithmetic, LeftShift, RightShift, Comparison, LogicalAnd, LogicalOr}
 use Rattle.opencl_tree.specs.Tree.{PrefixSign, Minus, Plus, LogicalNot, BitNot, Indirection, AddressOf}
-use Rattle.opencl_terms.specs.Types.{Scalar, Int, Size, is_float, promoted}
+use Rattle.opencl_terms.specs.Types.{Scalar, Int, Size, is_float, promoted, is_unsettled}
+use Rattle.opencl_terms.specs.Types as types
 use Rattle.opencl_terms.specs.Components.{number_in_text, size_shifted}
 use Rattle.opencl_terms.specs.Operators as operators
 use Rattle.opencl_terms.specs.Operators.{OfOne, OfTwo, of_one_component, of_two_components, result_type, may_take}
-use Rattle.opencl_values.specs.Faults.{Checked, WrongType, LeftOut, Pointer, SizeShift, refused, then, when, found}
+use Rattle.opencl_values.specs.Faults.{Checked, WrongType, LeftOut, Pointer, Long, SizeShift, refused, then, when, found}
 use Rattle.opencl_values.specs.Singles.{Single, single, alone, scalar_of_both, as_scalar, as_operand, as_test}
 
 -- an operator of one operand, which is promoted (6.5.3.3p2 to p4)
@@ -29,17 +30,22 @@ abbrev pub of_both : (ids : Kind) → OfTwo → Site → (to : Scalar) → (l r 
 of_both ids op site to l r =
     single (result_type op (alone to)).scalar (of_two_components ids (alone to) op site (as_operand ids to site l) (as_operand ids to site r))
 
+abbrev pub of_settled : (ids : Kind) → OfTwo → Site → (l r : Single) → Checked Single
+of_settled ids op site l r = when (may_take op (scalar_of_both l r)) WrongType site (of_both ids op site (scalar_of_both l r) l r)
+
+-- of a `long` and a size devices make different things
 abbrev pub of_operands : (ids : Kind) → OfTwo → Site → (l r : Single) → Checked Single
-of_operands ids op site l r = when (may_take op (scalar_of_both l r)) WrongType site (of_both ids op site (scalar_of_both l r) l r)
+of_operands ids op site l r = cond (is_unsettled l.scalar r.scalar) (refused (LeftOut Long) site) (of_settled ids op site l r)
 
 -- `&&` and `||`
 abbrev pub logical : (ids : Kind) → OfTwo → Site → (l r : Single) → Checked Single
 logical ids op site l r = Ok (single Int (of_two_components ids (alone Int) op site (as_test ids site l) (as_test ids site r)))
 
--- the left operand of a shift is promoted, the count is any integer; a size is shifted by a number in the text alone
+-- the left operand of a shift is promoted, the count is any integer; a size is shifted by a number in the text alone, a `long` not at all
 abbrev pub shifted_as : (ids : Kind) → Direction → Site → Scalar → (l r : Single) → Checked Single
 shifted_as ids d site Size l r =
     then (found (number_in_text r.term) (LeftOut SizeShift) site) (λ n. Ok (single Size (size_shifted ids d site l.term n)))
+shifted_as ids d site types.Long l r = refused (LeftOut Long) site
 shifted_as ids d site s l r = Ok (single s (of_two_components ids (alone s) (operators.Shifting d r.scalar) site l.term r.term))
 
 abbrev pub shifted : (ids : Kind) → Direction → Site → (l r : Single) → Checked Single

@@ -4,7 +4,7 @@ use Rattle.std.specs.Prelude.{ℕ, List, [], ◌∷◌, Bool, true, false, cond,
 use Rattle.semantics.specs.Word as word
 use Rattle.semantics.specs.Word.{Operator, Add, Subtract, Equal, Unequal}
 use Rattle.semantics.specs.Core as core
-use Rattle.semantics.specs.Core.{Site, Term, Binary}
+use Rattle.semantics.specs.Core.{Site, Term, Binary, Convert}
 use Rattle.texts.specs.Surface.{InfixSign, Arithmetic, Comparison}
 use Rattle.opencl_tree.specs.Types.{Base, Void, Qualifiers, Space, Global, Constant, TypeName}
 use Rattle.opencl_tree.specs.Tree.{PrefixSign, Expression, Integer, Name, Index, Prefix, Indirection, AddressOf, Cast, Infix}
@@ -14,9 +14,9 @@ use Rattle.opencl_values.specs.Faults.{Checked, WrongType, LeftOut, Pointer, ref
 use Rattle.opencl_values.specs.Scope.{Meaning, VariableOf, ArrayOf, OwnOf, PointerOf, NumberOf, TypeOf, UnreadOf, Binding, Names, meaning_of}
 use Rattle.opencl_values.specs.Singles.{Single, single, alone}
 use Rattle.opencl_values.specs.Wholes.{whole, only, words, is_same_type}
-use Rattle.opencl_values.specs.Elements.{Part, as_offset, steps}
+use Rattle.opencl_values.specs.Elements.{Part, as_offset, steps, in_place, times_pieces}
 use Rattle.opencl_values.specs.Names.{type_of_base}
-use Rattle.opencl_values.specs.Views.{has_view}
+use Rattle.opencl_values.specs.Views.{has_view, is_finer, parts_of}
 
 -- an array without an index is a pointer to its first element (6.3.2.1p3)
 abbrev pub is_array : Option Meaning → Bool
@@ -131,10 +131,18 @@ abbrev pub scalar_under : (over : Option Scalar) → ValueType → Scalar
 scalar_under None t = t.scalar
 scalar_under (Some a) t = a
 
+-- so many finer elements, which have to make whole ones (6.3.2.3p7)
+abbrev pub made_whole : Site → (count : ℕ) → Term → Term
+made_whole site n o =
+    Binary word.Add word.Int site (Binary word.Divide word.Int site o (int n)) (Convert word.Int site (in_place site n o))
+
+abbrev pub coarser : Site → (over : Scalar) → ValueType → Term → Term
+coarser site a t o = cond (is_finer a t) (made_whole site (parts_of a t) o) o
+
 -- an offset by elements of that scalar
 abbrev pub offset_under : Site → (over : Option Scalar) → ValueType → Term → Term
 offset_under site None t o = cond (is_vector t) (Binary word.Multiply word.Int site o (int (words t.width))) o
-offset_under site (Some a) t o = o
+offset_under site (Some a) t o = coarser site a t o
 
 abbrev pub first_offset : Option Term → Term
 first_offset None = int 0
@@ -148,14 +156,17 @@ abbrev pub seen_part : Site → Qualifiers → ValueType → Part → Part
 seen_part site q t p = record p {
   element = t;
   is_constant = p.is_constant || q.constant;
-  offset = Some (offset_under site p.over p.element (first_offset p.offset));
+  offset = Some (times_pieces site (parts_of (scalar_under p.over p.element) t) (offset_under site p.over p.element (first_offset p.offset)));
   over = over_for (scalar_under p.over p.element) t;
 }
 
 -- into a whole buffer
+abbrev pub may_be_seen : (own : Scalar) → ValueType → Bool
+may_be_seen a t = has_view a t || is_finer a t
+
 abbrev pub may_see : Qualifiers → ValueType → Part → Bool
 may_see q t p =
-    names_global q.space && (is_global p.array.space && (is_unindexed p.lengths p.index && has_view (scalar_under p.over p.element) t))
+    names_global q.space && (is_global p.array.space && (is_unindexed p.lengths p.index && may_be_seen (scalar_under p.over p.element) t))
 
 abbrev pub converted_part : Site → Qualifiers → ValueType → Part → Checked Part
 converted_part site q t p = when (may_see q t p) (LeftOut Pointer) site (seen_part site q t p)

@@ -3,7 +3,7 @@ use Rattle.std.specs.Prelude.{ℕ, Bool, true, false, not, ◌&&◌, nat_eq}
 use Rattle.semantics.specs.Word as word
 use Rattle.semantics.specs.Word.{Kind}
 use Rattle.semantics.specs.Core.{Site, Term, Unary, Convert, Minimum, Maximum}
-use Rattle.opencl_terms.specs.Types.{Scalar, Boolean, Char, Uchar, Short, Ushort, Int, Uint, Size, Float, bits_in}
+use Rattle.opencl_terms.specs.Types.{Scalar, Boolean, Char, Uchar, Short, Ushort, Int, Uint, Long, Size, Float, bits_in}
 use Rattle.opencl_terms.specs.Conversions.{int, uint, converted, bits_as_uint}
 use Rattle.opencl_values.specs.Bits.{bits_as_int}
 use Rattle.opencl_terms.specs.Operations as operations
@@ -64,10 +64,11 @@ reread ids site Int Float t = bits_as_uint site t
 reread ids site from Float t = t
 reread ids site from to t = converted ids from to site t
 
--- a size and a `bool` have no bits that each device agrees on
+-- a size and a `bool` have no bits that each device agrees on, and a `long` has more than its term
 abbrev pub has_own_bits : Scalar → Bool
 has_own_bits Boolean = true
 has_own_bits Size = true
+has_own_bits Long = true
 has_own_bits s = false
 
 abbrev pub has_bits_of : (from to : Scalar) → Bool

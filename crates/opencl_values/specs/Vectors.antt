@@ -6,13 +6,13 @@ use Rattle.semantics.specs.Word.{Kind, Direction, Leftward, Rightward}
 use Rattle.semantics.specs.Core.{Site, Array, Term, Literal, Variable, Load, Binary, Opaque, Select}
 use Rattle.texts.specs.Surface.{InfixSign, Arithmetic, LeftShift, RightShift, Comparison, LogicalAnd, LogicalOr}
 use Rattle.opencl_tree.specs.Tree.{PrefixSign, Minus, Plus, LogicalNot, BitNot, Indirection, AddressOf}
-use Rattle.opencl_terms.specs.Types.{Scalar, ValueType, Value, type_of, value_of, is_vector, is_float, stored_kind}
+use Rattle.opencl_terms.specs.Types.{Scalar, ValueType, Value, type_of, value_of, is_vector, is_float, stored_kind, is_unsettled}
 use Rattle.opencl_terms.specs.Conversions.{uint, loaded}
 use Rattle.opencl_terms.specs.Components.{has_highest_bit}
 use Rattle.opencl_terms.specs.Operations.{nothing}
 use Rattle.opencl_terms.specs.Operators as operators
 use Rattle.opencl_terms.specs.Operators.{OfOne, OfTwo, of_one_component, of_two_components, test_type, may_take}
-use Rattle.opencl_values.specs.Faults.{Checked, WrongType, LeftOut, Pointer, refused, then, when}
+use Rattle.opencl_values.specs.Faults.{Checked, WrongType, LeftOut, Pointer, Long, refused, then, when}
 use Rattle.opencl_values.specs.Singles.{Single, single, alone, as_scalar, as_test}
 use Rattle.opencl_values.specs.Operations as scalars
 use Rattle.opencl_values.specs.Wholes.{whole, single_in, only, component, is_same_type, places, behind, behind_dropped, nth_with}
@@ -190,7 +190,9 @@ abbrev pub vector_conditional : (ids : Kind) → Site → (t a b : Value) → Ch
 vector_conditional ids site t a b = then (type_of_both site a b) (vector_chosen ids site t a b)
 
 abbrev pub scalar_conditional : (ids : Kind) → Site → (t a b : Value) → Checked Value
-scalar_conditional ids site t a b = Ok (whole (scalars.conditional_of ids site (single_in t) (single_in a) (single_in b)))
+scalar_conditional ids site t a b =
+    when (not (is_unsettled a.type.scalar b.type.scalar)) (LeftOut Long) site
+    (whole (scalars.conditional_of ids site (single_in t) (single_in a) (single_in b)))
 
 abbrev pub conditional_of : (ids : Kind) → Site → (t a b : Value) → Checked Value
 conditional_of ids site t a b =

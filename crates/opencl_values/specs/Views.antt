@@ -1,10 +1,11 @@
--- Elements of a buffer that are seen as ones of another type, of as many bytes or more (C99 6.3.2.3p7; OpenCL 1.2, 6.1.5). The lowest bits
+-- Elements of a buffer that are seen as ones of another type, of as many bytes or more, and pointers to ones of fewer, through which nothing
+-- is read or stored (C99 6.3.2.3p7; OpenCL 1.2, 6.1.5). The lowest bits
 -- come first in memory: devices are little-endian, as `__ENDIAN_LITTLE__` says.
 use Rattle.std.specs.Prelude.{ℕ, ◌+◌, ◌*◌, List, [], ◌∷◌, ◌++◌, Bool, cond, not, ◌&&◌, nat_eq, nat_le}
 use Rattle.semantics.specs.Word as word
 use Rattle.semantics.specs.Word.{Leftward, Rightward}
 use Rattle.semantics.specs.Core.{Site, Array, Term, Binary, Shift}
-use Rattle.opencl_terms.specs.Types.{Scalar, ValueType, Value, type_of, value_of, bits_in}
+use Rattle.opencl_terms.specs.Types.{Scalar, ValueType, Value, type_of, value_of, bits_in, is_vector}
 use Rattle.opencl_terms.specs.Conversions.{uint}
 use Rattle.opencl_values.specs.Bits.{is_in_memory, word_of, bits_of_word, word_of_bits, number_of_bits, bits_of_number}
 use Rattle.opencl_values.specs.Wholes.{component, places}
@@ -36,6 +37,16 @@ pieces a t = cond (nat_le t.width 16 && not (nat_eq t.width 3)) (so_many (under_
 
 abbrev pub has_view : (over : Scalar) → ValueType → Bool
 has_view a t = is_in_memory t.scalar && (nat_le 1 (pieces a t) && nat_le (pieces a t) 16)
+
+-- how many elements of a narrower scalar lie in one of the scalar `over`; 0 where it is not narrower
+abbrev pub narrower : (over bits : ℕ) → ℕ
+narrower a n = cond (nat_eq a 32) (cond (nat_eq n 8) 4 (cond (nat_eq n 16) 2 0)) (cond (nat_eq a 16 && nat_eq n 8) 2 0)
+
+abbrev pub parts_of : (over : Scalar) → ValueType → ℕ
+parts_of a t = cond (is_in_memory t.scalar && not (is_vector t)) (narrower (bits_in a) (bits_in t.scalar)) 0
+
+abbrev pub is_finer : (over : Scalar) → ValueType → Bool
+is_finer a t = nat_le 2 (parts_of a t)
 
 -- the bits of some elements, one behind the other, of which each has so many
 abbrev pub two : Site → (bits : ℕ) → (low high : Term) → Term

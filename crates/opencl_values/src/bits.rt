@@ -46,11 +46,11 @@ pub fn bits_as_int(alloc: Global, at: Site, of: Term) -> Result<Term, AllocError
     binary(alloc, Operator::Add, Kind::Int, at, upper, lower)
 }
 
-/// Whether a scalar has a size in memory of its own.
+/// Whether a scalar has elements in memory.
 pub fn is_in_memory(of: Scalar) -> bool
     ensures { result ≡ rules.is_in_memory (scalar_seen of) }
 {
-    !matches!(of, Scalar::Boolean | Scalar::Size)
+    !matches!(of, Scalar::Boolean | Scalar::Size | Scalar::Long)
 }
 
 /// What an element's word is: its bits as a `uint`, but for an `int`.

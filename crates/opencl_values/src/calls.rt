@@ -10,12 +10,12 @@ ghost use Rattle.opencl_tree.specs.View.{expressions};
 ghost use Rattle.opencl_values.specs.Calls as rules;
 ghost use Rattle.opencl_values.specs.CallsView.{call as seen};
 ghost use Rattle.opencl_values.specs.FunctionsView.{form as form_seen};
-ghost use Rattle.opencl_values.specs.View.{single, singles_seen as values, Gives};
+ghost use Rattle.opencl_values.specs.View.{fault as fault_seen, single, singles_seen as values, Gives};
 ghost use Rattle.semantics.specs.Core as core;
 ghost use Rattle.semantics.specs.Word as word;
 ghost use Rattle.words.specs.View.{kind as kind_seen};
 
-use crate::error::{Fault, ValueError, refused};
+use crate::error::{Construct, Fault, ValueError, refused};
 use crate::functions::Form;
 use crate::saturation::{has_bits_of, reread, saturated_from};
 use crate::singles::{Single, as_scalar};
@@ -386,6 +386,12 @@ fn first_scalar(of: &[Single]) -> Scalar
     }
 }
 
+fn is_word(of: Scalar) -> bool
+    ensures { result ≡ rules.is_word (scalar_seen of) }
+{
+    !matches!(of, Scalar::Float | Scalar::Long)
+}
+
 // Whether a function takes arguments of these types.
 fn takes(form: Form, call: Call) -> bool
     ensures { result ≡ rules.takes (form_seen form) (seen call.entry) }
@@ -393,7 +399,7 @@ fn takes(form: Form, call: Call) -> bool
     match form {
         Form::IdOf(_) | Form::Offset | Form::Missing(_) => false,
         Form::BitsAs(to) => has_bits_of(first_scalar(call.of), to),
-        Form::Integers(_) | Form::Absolute | Form::Product24 | Form::Sum24 => !call.to.is_float(),
+        Form::Integers(_) | Form::Absolute | Form::Product24 | Form::Sum24 => is_word(call.to),
         _ => true,
     }
 }
@@ -450,11 +456,20 @@ pub fn term_made(alloc: Global, form: Form, call: Call) -> Result<Term, AllocErr
     }
 }
 
+fn untaken(to: Scalar) -> Fault
+    ensures { fault_seen result ≡ rules.untaken (scalar_seen to) }
+{
+    match to {
+        Scalar::Long => Fault::LeftOut(Construct::Long),
+        _ => Fault::WrongType,
+    }
+}
+
 fn made(alloc: Global, form: Form, call: Call) -> Result<Single, ValueError>
     ensures { Gives single result (rules.made (form_seen form) (seen call.entry)) }
 {
     if !takes(form, call) {
-        return refused(Fault::WrongType, call.at);
+        return refused(untaken(call.to), call.at);
     }
     Ok(Single {
         scalar: scalar_made(form, call.to),

@@ -552,6 +552,7 @@ fn is_signed(of: Scalar) -> bool
         | Scalar::Uchar
         | Scalar::Ushort
         | Scalar::Uint
+        | Scalar::Long
         | Scalar::Size
         | Scalar::Float => false,
     }

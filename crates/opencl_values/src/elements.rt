@@ -13,7 +13,7 @@ use crate::error::{Construct, Fault, ValueError, refused};
 use crate::scope::Meaning;
 use crate::singles::Single;
 use crate::vectors::{Made, vector_made};
-use crate::views::{pieces, view_loaded};
+use crate::views::{is_finer, pieces, view_loaded};
 use crate::wholes::{Value, vectors_below, whole, words};
 use core_code::tree::{Array, Operator, Site, Term};
 use core_pieces::copies::copy_of;
@@ -25,7 +25,7 @@ use words::Kind;
 
 /// An array, of which some dimensions have an index: the lengths of the others, where they begin in it, and, of a pointer, its offset, to
 /// which the next index is added. Where a buffer's elements are seen as ones of another type, `over` is the buffer's scalar, of which the
-/// offset counts elements.
+/// offset counts elements; of finer ones it counts these.
 #[derive(Drop)]
 pub struct Part<'a> {
     pub array: Array,
@@ -264,10 +264,11 @@ pub fn as_offset(alloc: Global, at: Site, of: Single) -> Result<Term, AllocError
     }
 }
 
-fn times_pieces(alloc: Global, at: Site, count: u32, of: Term) -> Result<Term, AllocError>
+/// So many times as many elements.
+pub fn times_pieces(alloc: Global, at: Site, count: u32, of: Term) -> Result<Term, AllocError>
     ensures { IfOk result (λ t. term t ≡ rules.times_pieces (site at) count (term of)) }
 {
-    if count == 1 {
+    if count <= 1 {
         return Ok(of);
     }
     binary(
@@ -351,8 +352,8 @@ fn first_word(alloc: Global, at: Site, of: ValueType, index: Term) -> Result<Ter
     }
 }
 
-// What is seen as another type has to be in its place.
-fn in_place(alloc: Global, at: Site, count: u32, index: Term) -> Result<Term, AllocError>
+/// What is seen as another type has to be in its place.
+pub fn in_place(alloc: Global, at: Site, count: u32, index: Term) -> Result<Term, AllocError>
     requires { 1 ≤ count }
     ensures { IfOk result (λ t. term t ≡ rules.in_place (site at) count (term index)) }
 {
@@ -388,6 +389,15 @@ fn first_in_memory(
     }
 }
 
+fn is_finer_over(over: Option<Scalar>, of: ValueType) -> bool
+    ensures { result ≡ rules.is_finer_over (maybe_scalar over) (value_type of) }
+{
+    match over {
+        None => false,
+        Some(over) => is_finer(over, of),
+    }
+}
+
 /// The element that an array with all its indexes is.
 pub fn element_in(alloc: Global, at: Site, of: Part<'_>) -> Result<Element, ValueError>
     ensures { Gives element_seen result (rules.element_in (site at) (part_seen of.entry)) }
@@ -401,6 +411,9 @@ pub fn element_in(alloc: Global, at: Site, of: Part<'_>) -> Result<Element, Valu
         over,
         ..
     } = of;
+    if is_finer_over(over, element) {
+        return refused(Fault::LeftOut(Construct::Pointer), at);
+    }
     match (lengths, index) {
         ([], Some(index)) => Ok(Element {
             array,

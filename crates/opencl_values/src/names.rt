@@ -30,9 +30,10 @@ fn scalar_named(at: Site, of: Word) -> Result<Scalar, ValueError>
         Word::Ushort => Ok(Scalar::Ushort),
         Word::Int => Ok(Scalar::Int),
         Word::Uint => Ok(Scalar::Uint),
+        Word::Long => Ok(Scalar::Long),
         Word::SizeT => Ok(Scalar::Size),
         Word::Float => Ok(Scalar::Float),
-        Word::Long | Word::Ulong | Word::PtrdiffT => refused(Fault::LeftOut(Construct::Long), at),
+        Word::Ulong | Word::PtrdiffT => refused(Fault::LeftOut(Construct::Long), at),
         Word::Half => refused(Fault::LeftOut(Construct::Half), at),
         Word::Double => refused(Fault::LeftOut(Construct::Double), at),
     }
@@ -109,6 +110,7 @@ pub fn bytes_in(at: Site, of: Scalar) -> Result<u32, ValueError>
         Scalar::Char | Scalar::Uchar => Ok(1),
         Scalar::Short | Scalar::Ushort => Ok(2),
         Scalar::Int | Scalar::Uint | Scalar::Float => Ok(4),
+        Scalar::Long => Ok(8),
         Scalar::Boolean | Scalar::Size => refused(Fault::LeftOut(Construct::DeviceSize), at),
     }
 }

@@ -21,7 +21,7 @@ use opencl_terms::components::{number_in_text, size_shifted};
 use opencl_terms::operators::{
     OfOne, OfTwo, may_take, of_one_component, of_two_components, result_type,
 };
-use opencl_terms::scalars::Scalar;
+use opencl_terms::scalars::{Scalar, is_unsettled};
 use opencl_tree::tree::PrefixSign;
 use std::alloc::{AllocError, Global};
 use syntax::tree::InfixSign;
@@ -117,6 +117,23 @@ fn of_both(
     })
 }
 
+fn of_settled(
+    alloc: Global,
+    ids: Kind,
+    operator: OfTwo,
+    at: Site,
+    left: Single,
+    right: Single,
+) -> Result<Single, ValueError>
+    ensures { Gives single result (rules.of_settled (kind_seen ids) (seen.of_two operator) (site at) (single left) (single right)) }
+{
+    let to = scalar_of_both(left.scalar, right.scalar);
+    if !may_take(operator, to) {
+        return refused(Fault::WrongType, at);
+    }
+    of_both(alloc, ids, (operator, to), at, left, right)
+}
+
 fn of_operands(
     alloc: Global,
     ids: Kind,
@@ -127,11 +144,10 @@ fn of_operands(
 ) -> Result<Single, ValueError>
     ensures { Gives single result (rules.of_operands (kind_seen ids) (seen.of_two operator) (site at) (single left) (single right)) }
 {
-    let to = scalar_of_both(left.scalar, right.scalar);
-    if !may_take(operator, to) {
-        return refused(Fault::WrongType, at);
+    if is_unsettled(left.scalar, right.scalar) {
+        return refused(Fault::LeftOut(Construct::Long), at);
     }
-    of_both(alloc, ids, (operator, to), at, left, right)
+    of_settled(alloc, ids, operator, at, left, right)
 }
 
 // Both sides of `&&` or `||`, as tests.
@@ -204,6 +220,9 @@ fn shifted(
     let scalar = left.scalar.promoted();
     if scalar == Scalar::Size {
         return shifted_size(alloc, ids, direction, at, left, right);
+    }
+    if scalar == Scalar::Long {
+        return refused(Fault::LeftOut(Construct::Long), at);
     }
     let operator = OfTwo::Shifting(direction, right.scalar);
     Ok(Single {

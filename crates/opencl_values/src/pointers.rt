@@ -1,6 +1,6 @@
 //! Pointers: arrays with an offset.
 
-ghost use Rattle.std.specs.Prelude.{◌≡◌, IfOk, map};
+ghost use Rattle.std.specs.Prelude.{◌≡◌, ◌≤◌, IfOk, map};
 ghost use Rattle.std.specs.Option.{option_map};
 ghost use Rattle.core_code.specs.View.{operator as operator_seen, site, space as core_space, term};
 ghost use Rattle.opencl_terms.specs.Answers.{value_type};
@@ -11,15 +11,16 @@ ghost use Rattle.opencl_values.specs.Pointers as rules;
 ghost use Rattle.opencl_values.specs.View.{bindings, maybe_scalar, meaning_in, names as names_seen, single, value as value_seen, Gives};
 ghost use Rattle.syntax.specs.View.{infix_sign};
 
-use crate::elements::{Part, as_offset, steps};
+use crate::elements::{Part, as_offset, in_place, steps, times_pieces};
 use crate::error::{Construct, Fault, ValueError, refused};
 use crate::names::type_of_base;
 use crate::scope::{Binding, Meaning, Names, meaning_of};
 use crate::singles::Single;
-use crate::views::has_view;
+use crate::views::{has_view, is_finer, parts_of};
 use crate::wholes::{Value, is_same_type, only, whole, words};
 use core_code::tree::{Operator, Relation, Site, Space as CoreSpace, Term};
-use core_pieces::pieces::{binary, literal};
+use core_pieces::copies::copy_of;
+use core_pieces::pieces::{binary, convert, literal};
 use opencl_terms::scalars::{Scalar, ValueType};
 use opencl_tree::tree::{Expr, PrefixSign};
 use opencl_tree::types::{Base, Qualifiers, Space, TypeName};
@@ -258,6 +259,42 @@ fn scalar_under(over: Option<Scalar>, of: ValueType) -> Scalar
     }
 }
 
+// So many finer elements, which have to make whole ones.
+fn made_whole(alloc: Global, at: Site, count: u32, offset: Term) -> Result<Term, AllocError>
+    requires { 1 ≤ count }
+    ensures { IfOk result (λ t. term t ≡ rules.made_whole (site at) count (term offset)) }
+{
+    let again = copy_of(alloc, &offset)?;
+    let whole = binary(
+        alloc,
+        Operator::Divide,
+        Kind::Int,
+        at,
+        offset,
+        literal(Kind::Int, count),
+    )?;
+    let rest = in_place(alloc, at, count, again)?;
+    let rest = convert(alloc, Kind::Int, at, rest)?;
+    binary(alloc, Operator::Add, Kind::Int, at, whole, rest)
+}
+
+fn coarser(
+    alloc: Global,
+    at: Site,
+    over: Scalar,
+    of: ValueType,
+    offset: Term,
+) -> Result<Term, AllocError>
+    ensures { IfOk result (λ t. term t ≡ rules.coarser (site at) (scalar_seen over) (value_type of) (term offset)) }
+{
+    let count = parts_of(over, of);
+    if 2 <= count {
+        made_whole(alloc, at, count, offset)
+    } else {
+        Ok(offset)
+    }
+}
+
 // An offset, by elements of the scalar of the array itself.
 fn offset_under(
     alloc: Global,
@@ -268,7 +305,10 @@ fn offset_under(
 ) -> Result<Term, AllocError>
     ensures { IfOk result (λ t. term t ≡ rules.offset_under (site at) (maybe_scalar over) (value_type of) (term offset)) }
 {
-    if over.is_some() || !of.is_vector() {
+    if let Some(over) = over {
+        return coarser(alloc, at, over, of, offset);
+    }
+    if !of.is_vector() {
         return Ok(offset);
     }
     binary(
@@ -304,13 +344,19 @@ fn over_for(own: Scalar, of: ValueType) -> Option<Scalar>
     }
 }
 
+fn may_be_seen(own: Scalar, to: ValueType) -> bool
+    ensures { result ≡ rules.may_be_seen (scalar_seen own) (value_type to) }
+{
+    has_view(own, to) || is_finer(own, to)
+}
+
 fn may_see(qualifiers: Qualifiers, to: ValueType, of: &Part<'_>) -> bool
     ensures { result ≡ rules.may_see (qualifiers_seen qualifiers) (value_type to) (part_seen of.now) }
 {
     names_global(qualifiers.space)
         && is_global(of.array.space)
         && is_unindexed(of.lengths, &of.index)
-        && has_view(scalar_under(of.over, of.element), to)
+        && may_be_seen(scalar_under(of.over, of.element), to)
 }
 
 /// A pointer into a buffer, as one to another type (C99 6.3.2.3p7).
@@ -335,7 +381,9 @@ pub fn converted_part<'a>(
         offset,
         over,
     } = of;
+    let own = scalar_under(over, element);
     let offset = offset_under(alloc, at, over, element, first_offset(offset))?;
+    let offset = times_pieces(alloc, at, parts_of(own, to), offset)?;
     Ok(Part {
         array,
         element: to,
@@ -343,7 +391,7 @@ pub fn converted_part<'a>(
         lengths,
         index,
         offset: Some(offset),
-        over: over_for(scalar_under(over, element), to),
+        over: over_for(own, to),
     })
 }
 

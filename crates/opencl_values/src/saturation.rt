@@ -170,11 +170,11 @@ pub fn reread(
     }
 }
 
-// A size and a `bool` have no bits that each device agrees on.
+// A size and a `bool` have no bits that each device agrees on, and a `long` has more than its term.
 fn has_own_bits(of: Scalar) -> bool
     ensures { result ≡ rules.has_own_bits (scalar_seen of) }
 {
-    matches!(of, Scalar::Boolean | Scalar::Size)
+    matches!(of, Scalar::Boolean | Scalar::Size | Scalar::Long)
 }
 
 /// Whether a scalar may be read as another, bit by bit.

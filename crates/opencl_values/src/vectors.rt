@@ -27,7 +27,7 @@ use opencl_terms::narrowing::loaded;
 use opencl_terms::operators::{
     OfOne, OfTwo, may_take, of_one_component, of_two_components, result_type, test_type,
 };
-use opencl_terms::scalars::{Scalar, ValueType};
+use opencl_terms::scalars::{Scalar, ValueType, is_unsettled};
 use opencl_tree::tree::PrefixSign;
 use std::alloc::{AllocError, Global};
 use syntax::tree::InfixSign;
@@ -648,6 +648,9 @@ fn scalar_conditional(
 ) -> Result<Value, ValueError>
     ensures { Gives value_seen result (rules.scalar_conditional (kind_seen ids) (site at) (value_seen test) (value_seen taken) (value_seen skipped)) }
 {
+    if is_unsettled(taken.of.scalar, skipped.of.scalar) {
+        return refused(Fault::LeftOut(Construct::Long), at);
+    }
     let test = single_in(test);
     let taken = single_in(taken);
     let skipped = single_in(skipped);

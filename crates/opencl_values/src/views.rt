@@ -1,4 +1,4 @@
-//! Elements of a buffer that are seen as ones of another type.
+//! Elements of a buffer that are seen as ones of another type, and how many finer ones lie in one.
 
 ghost use Rattle.std.specs.Prelude.{◌≡◌, ◌≤◌, [], map, IfOk};
 ghost use Rattle.core_code.specs.View.{array as array_seen, site, term};
@@ -91,6 +91,34 @@ pub fn has_view(over: Scalar, of: ValueType) -> bool
     ensures { result ≡ rules.has_view (scalar_seen over) (value_type of) }
 {
     is_in_memory(of.scalar) && 1 <= pieces(over, of) && pieces(over, of) <= 16
+}
+
+fn narrower(over: u32, bits: u32) -> u32
+    ensures { result ≡ rules.narrower over bits }
+{
+    match (over, bits) {
+        (32, 8) => 4,
+        (32, 16) | (16, 8) => 2,
+        _ => 0,
+    }
+}
+
+/// How many elements of a narrower type lie in one of the scalar `over`, in memory; 0 where it is not narrower.
+pub fn parts_of(over: Scalar, of: ValueType) -> u32
+    ensures { result ≡ rules.parts_of (scalar_seen over) (value_type of) }
+{
+    if is_in_memory(of.scalar) && !of.is_vector() {
+        narrower(over.bits(), of.scalar.bits())
+    } else {
+        0
+    }
+}
+
+/// Whether a type's elements are narrower than those of the scalar `over`.
+pub fn is_finer(over: Scalar, of: ValueType) -> bool
+    ensures { result ≡ rules.is_finer (scalar_seen over) (value_type of) }
+{
+    2 <= parts_of(over, of)
 }
 
 fn two(alloc: Global, at: Site, bits: u32, low: Term, high: Term) -> Result<Term, AllocError>

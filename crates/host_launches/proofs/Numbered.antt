@@ -17,7 +17,7 @@ use Rattle.host_launches.specs.Sizes.{first, second, third, are_dimensions, whol
 use Rattle.host_launches.specs.Sizes as sizes
 use Rattle.host_launches.specs.Fitting.{is_among, is_short, argument_fits, each_fits, arguments_fit, lesser}
 use Rattle.host_launches.specs.Kinds.{are_parameters}
-use Rattle.host_launches.specs.Numbers.{lengths_of}
+use Rattle.host_launches.specs.Numbers.{has_word, lengths_of}
 use Rattle.host_launches.specs.Telling.{groups_told, launch_of, on_line, unsaid, met_told, all_told}
 use Rattle.host_launches.specs.Refusing.{fine, memory, on, when, refusal, Tells}
 
@@ -51,7 +51,7 @@ groups-numbered s r =
     on-numbered (groups_along 2 s.z (third r)) (λ z. sizes.counts x y z) (along-numbered 2 s.z (third r)) (λ z. ok-numbered (record { x = x; y = y; z = z })))))
 
 one-numbered : (s : Shape) (n : ℕ) (a : Argument) (es : List Argument) → IsNumbered (argument_fits s n a es)
-one-numbered (Value e) n a es = when-numbered (nat_eq a.kind 0 && nat_eq a.bytes (bytes_of e.scalar e.width)) 41 n fine (λ z. cc) (ok-numbered tt)
+one-numbered (Value e) n a es = when-numbered (nat_eq a.kind 0 && (nat_eq a.bytes (bytes_of e.scalar e.width) && has_word e.scalar a.words)) 41 n fine (λ z. cc) (ok-numbered tt)
 one-numbered (Buffer e) n a es =
     when-numbered (nat_eq a.kind 1 && not (nat_eq a.memory 0)) 41 n (when (is_short e a) 47 n (when (not (is_among a.memory es)) 44 n fine)) (λ z. cc) (
     when-numbered (is_short e a) 47 n (when (not (is_among a.memory es)) 44 n fine) (λ z. cc) (when-numbered (not (is_among a.memory es)) 44 n fine (λ z. cc) (ok-numbered tt)))

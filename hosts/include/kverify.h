@@ -56,7 +56,7 @@ extern "C" {
 /* 46 and 48 are not in use. */
 
 /* What a call answers: its number again; the line of a text, the number of an obligation or of an argument; and a column of the kernel's
- * text, or 0. Which it is goes by the number: 1 to 28, 53 and 55 the kernel's line and column; 30 to 35, 40 and 45 a line of the
+ * text, or 0. Which it is goes by the number: 1 to 29, 35, 53 and 55 the kernel's line and column; 30 to 34, 40 and 45 a line of the
  * conditions; 50 a line of the certificate; 52 an obligation. Where kv_check answers 0 of the same texts, 30 to 34 of kv_run are a line of
  * the launch. */
 typedef struct {

@@ -186,7 +186,7 @@ class Maker:
             return Term(text.format(x=x, y=y, n=dice.randrange(1, 8)), "uint", None, ["x", "y"])
         if depth <= 0 or dice.random() < 0.12:
             return self.leaf()
-        steps = [self.arithmetic] * 4 + [self.bits] * 3 + [self.shift, self.flip, self.cast_any]
+        steps = [self.arithmetic] * 4 + [self.bits] * 3 + [self.shift, self.flip, self.cast_any, self.wide]
         if not self.is_plain:
             steps += [self.divide, self.shift, self.cast_any, self.function, self.function, self.size, self.macro]
         if self.theme == "vectors":
@@ -322,6 +322,25 @@ class Maker:
         inner = self.narrowed(inner, 2**31 - 1)
         ends = None if inner.kind == "uint" else (-inner.high, -inner.low)
         return made_of(f"(-{self.closed(inner)})", promoted(inner.kind), [inner], ends)
+
+    def wide(self, depth):
+        """A number that is made of `long` ones, which have numbers of an `int`."""
+        dice = self.dice
+        first = self.narrowed(self.scalar(depth - 1), 2**14)
+        second = self.narrowed(self.beside(first, depth - 1), 2**14)
+        shape, sign = dice.randrange(6), dice.choice("+-*&|^")
+        one = f"(long){self.closed(first)} {sign} {second.text}"
+        if shape == 0:
+            return made_of(f"((long){self.closed(first)} {dice.choice(['<', '>=', '==', '!='])} {second.text})", "int", [first, second], (0, 1))
+        if shape == 1:
+            return made_of(f"(int)((long){self.closed(first)} {dice.choice('/%')} (({second.text} & 7) + 1))", "int", [first, second])
+        if shape == 2:
+            kind = dice.choice([*NARROW, "uint"])
+            return made_of(f"({kind})(-({one}))", kind, [first, second])
+        if shape == 3:
+            return made_of(f"(int)(({one}) * ~(long){dice.randrange(4)})", "int", [first, second])
+        kind = dice.choice(["int", "unsigned"])
+        return made_of(f"({kind})({one})", "int" if kind == "int" else "uint", [first, second])
 
     def flip(self, depth):
         inner = self.tame(self.scalar(depth - 1))

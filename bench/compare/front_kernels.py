@@ -326,8 +326,8 @@ class Maker:
     def wide(self, depth):
         """A number that is made of `long` ones, which have numbers of an `int`."""
         dice = self.dice
-        first = self.narrowed(self.scalar(depth - 1), 2**14)
-        second = self.narrowed(self.beside(first, depth - 1), 2**14)
+        first = self.narrowed(self.tame(self.scalar(depth - 1)), 2**14)
+        second = self.narrowed(self.tame(self.beside(first, depth - 1)), 2**14)
         shape, sign = dice.randrange(6), dice.choice("+-*&|^")
         one = f"(long){self.closed(first)} {sign} {second.text}"
         if shape == 0:

@@ -237,7 +237,9 @@ static void write_value(const struct parameter *parameter, const struct hull *hu
     for (part = 0; part < parameter->components; part++) {
         int64_t low = component_of(parameter, &hull->low.arguments[at], part);
         int64_t high = component_of(parameter, &hull->high.arguments[at], part);
-        int64_t most = (int64_t)((uint64_t)1 << (8 * parameter->bytes - (parameter->is_unsigned ? 0 : 1))) - 1;
+        /* (a long has the range of an int) */
+        unsigned bits = parameter->bytes < 4 ? 8 * parameter->bytes : 32;
+        int64_t most = (int64_t)((uint64_t)1 << (bits - (parameter->is_unsigned ? 0 : 1))) - 1;
         bool is_any = breadth == GENERAL && parameter->is_float;
         if (is_to_powers && low > 0) high = (int64_t)next_power((uint64_t)high);
         if (breadth == GENERAL && low > 0) low = 1;

@@ -44,7 +44,8 @@ static const struct {
 } scalars[] = {{"char", 1, false, false},         {"uchar", 1, true, false},          {"unsigned char", 1, true, false},
                {"short", 2, false, false},        {"ushort", 2, true, false},         {"unsigned short", 2, true, false},
                {"int", 4, false, false},          {"uint", 4, true, false},           {"unsigned int", 4, true, false},
-               {"float", 4, true, true},          {"unsigned", 4, true, false},       {"signed char", 1, false, false}};
+               {"float", 4, true, true},          {"unsigned", 4, true, false},       {"signed char", 1, false, false},
+               {"long", 8, false, false}};
 
 /* A name of a type that is none of these, as one of a typedef, says nothing of its size. */
 static void shape(struct parameter *parameter) {

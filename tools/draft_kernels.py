@@ -8,9 +8,10 @@ import re
 LOCAL_SIZES = {1: (64, 1, 1), 2: (16, 16, 1), 3: (8, 8, 4)}
 # The ranges of types, by their names without what says no more.
 RANGES = {"char": (-128, 127), "uchar": (0, 255), "short": (-32768, 32767), "ushort": (0, 65535), "int": (-2147483648, 2147483647),
-          "uint": (0, 4294967295), "float": (0, 4294967295), "bool": (0, 1)}
+          "uint": (0, 4294967295), "long": (-2147483648, 2147483647), "float": (0, 4294967295), "bool": (0, 1)}
 SPELLINGS = {"unsigned char": "uchar", "signed char": "char", "unsigned short": "ushort", "signed short": "short", "unsigned int": "uint",
-             "signed int": "int", "unsigned": "uint", "signed": "int", "short int": "short", "unsigned short int": "ushort"}
+             "signed int": "int", "unsigned": "uint", "signed": "int", "short int": "short", "unsigned short int": "ushort",
+             "long int": "long", "signed long": "long"}
 QUALIFIERS = {"const", "restrict", "__restrict", "__restrict__", "volatile", "global", "__global", "constant", "__constant", "local",
               "__local", "private", "__private"}
 COMMENT = re.compile(r"//[^\n]*|/\*.*?\*/", re.S)

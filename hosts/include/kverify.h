@@ -45,7 +45,7 @@ extern "C" {
 #define KV_UNMET 40u     /* place: the line of the conditions that the launch does not meet */
 #define KV_ARGUMENTS 41u /* place: the argument (from 0) that is missing, too much, of another kind or size than its parameter, a
                             buffer whose memory is 0, or a __local one that is smaller than COUNT scalars, by its `local` line,
-                            where COUNT counts the components of vectors */
+                            where COUNT counts the components of vectors; or a `long` whose number is that of no int */
 #define KV_SIZES 42u     /* place: the dimension whose sizes are not 1 to 65,536 whole groups of the kernel's, or of the `local_size`
                             line's, size; or `dimensions`, if that is not 1 to 3 */
 #define KV_OFFSET 43u    /* place: the dimension with a global offset */

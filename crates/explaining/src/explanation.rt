@@ -23,6 +23,9 @@ use typed_kernels::Typed;
 /// The number of the refusal where there are too many paths from one place.
 const MANY_PATHS: u8 = 53;
 
+/// The number of the refusal where something of OpenCL C is left out.
+const LEFT_OUT: u8 = 15;
+
 /// The number of a refusal, where it points in the kernel's text, what was found, what a further search leaves of that, where loops part
 /// paths that are too many, and the certificate of which the steps pass the budget, where they do.
 #[derive(Clone, Copy)]
@@ -65,6 +68,32 @@ fn push_tests(
     }
 }
 
+/// Writes what a number means, and, where something of OpenCL C is left out, what it is.
+fn push_meaning(
+    alloc: Global,
+    subject: Subject,
+    number: u8,
+    out: &mut String,
+) -> Result<(), AllocError> {
+    if number != LEFT_OUT {
+        return push_paragraph(out, "", meaning(number));
+    }
+    let what = match read_proper_kernel(alloc, subject.source) {
+        Ok(_) => None,
+        Err(error) => error.left_out(),
+    };
+    match what {
+        None => push_paragraph(out, "", meaning(number)),
+        Some(what) => {
+            let mut text = String::new(alloc);
+            text.push_str("What stands there is left out: ")?;
+            text.push_str(what)?;
+            text.push_str(". What is read says docs/OPENCL.md: write it out by that.")?;
+            push_paragraph(out, "", &text)
+        }
+    }
+}
+
 /// Writes the most steps that a work-item takes by a certificate.
 fn push_cost(
     alloc: Global,
@@ -87,7 +116,7 @@ fn explanation(
     let mut out = String::new(alloc);
     if refused.findings.is_empty() {
         out.push_str("\n")?;
-        push_paragraph(&mut out, "", meaning(refused.number))?;
+        push_meaning(alloc, subject, refused.number, &mut out)?;
     }
     push_findings(alloc, subject, refused.findings, refused.outlook, &mut out)?;
     if let (MANY_PATHS, Some(place)) = (refused.number, refused.place) {

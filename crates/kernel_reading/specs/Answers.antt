@@ -1,5 +1,5 @@
 -- What the code answers, as the definition has it.
-use Rattle.std.specs.Prelude.{ℕ, ◌≡◌, Bool, true, false, Option, Some, None, Result, Ok, Err}
+use Rattle.std.specs.Prelude.{ℕ, ◌≡◌, Bool, true, false, nat_eq, Option, Some, None, Result, Ok, Err}
 use Rattle.core_code.specs.View as core
 use Rattle.kernel_names.specs.View.{names_seen}
 use Rattle.typed_kernels.specs.TypedKernel.{TypedKernel}
@@ -51,6 +51,11 @@ error_number (errors.Plain e) = plain.error_number e
 error_number (errors.OpenCl e) = opencl.error_number e
 error_number (errors.Head e) = conditions.error_number e
 error_number errors.Headed = 35
+
+-- whether something of OpenCL C is left out at its place
+abbrev pub is_left_out : KernelError → Bool
+is_left_out (errors.OpenCl e) = nat_eq (opencl.error_number e) 15
+is_left_out e = false
 
 abbrev pub error_place : KernelError → Option (ℕ × ℕ)
 error_place (errors.Plain e) = plain.error_place e

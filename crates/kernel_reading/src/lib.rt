@@ -69,7 +69,8 @@ pub enum KernelError {
 }
 
 impl KernelError {
-    ghost use Rattle.kernel_reading.specs.Answers.{error_number, error_place};
+    ghost use Rattle.std.specs.Prelude.{is_some};
+    ghost use Rattle.kernel_reading.specs.Answers.{error_number, error_place, is_left_out};
 
     /// The number under which the error is printed.
     pub fn number(&self) -> u8
@@ -80,6 +81,16 @@ impl KernelError {
             KernelError::OpenCl(error) => error.number(),
             KernelError::Head(error) => error.number(),
             KernelError::Headed => 35,
+        }
+    }
+
+    /// What of OpenCL C is left out at the fault's place, in words; of another fault nothing.
+    pub fn left_out(&self) -> Option<&'static str>
+        ensures { is_some result ≡ is_left_out self.now }
+    {
+        match self {
+            KernelError::OpenCl(error) => error.left_out(),
+            KernelError::Plain(_) | KernelError::Head(_) | KernelError::Headed => None,
         }
     }
 

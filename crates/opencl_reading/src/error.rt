@@ -2,10 +2,12 @@
 
 ghost use Rattle.std.specs.Prelude.{◌≡◌};
 
+use crate::left_out;
 use core_code::tree::Site;
-use opencl_files::errors::FileError;
-use opencl_tokens::TokenError;
-use opencl_values::error::ValueError;
+use opencl_files::errors::{FileError, FileFault};
+use opencl_parser::stops::ParseFault;
+use opencl_tokens::{TextFault, TokenError};
+use opencl_values::error::{Fault, ValueError};
 use std::alloc::{AllocError, AllocFailed};
 use thiserror::Error;
 
@@ -42,6 +44,7 @@ fn pair(site: Site) -> (u32, u32)
 }
 
 impl OpenClError {
+    ghost use Rattle.std.specs.Prelude.{is_some, nat_eq};
     ghost use Rattle.opencl_reading.specs.Answers.{error_number, error_place};
 
     /// The number under which the error is printed.
@@ -57,6 +60,33 @@ impl OpenClError {
             OpenClError::NoSuchLocal(_) => 35,
             OpenClError::Unsound(_) => 19,
             OpenClError::Memory => 90,
+        }
+    }
+
+    /// What is left out at the fault's place, in words; of a fault of another number nothing.
+    pub fn left_out(&self) -> Option<&'static str>
+        ensures { is_some result ≡ nat_eq (error_number self.now) 15 }
+    {
+        match self {
+            OpenClError::Text(
+                TokenError::At {
+                    fault: TextFault::LeftOut(word),
+                    ..
+                },
+            ) => Some(left_out::token(*word)),
+            OpenClError::File(
+                FileError::At {
+                    fault: FileFault::Text(ParseFault::LeftOut(construct)),
+                    ..
+                },
+            ) => Some(left_out::read(*construct)),
+            OpenClError::Core(
+                ValueError::At {
+                    fault: Fault::LeftOut(construct),
+                    ..
+                },
+            ) => Some(left_out::written(*construct)),
+            _ => None,
         }
     }
 

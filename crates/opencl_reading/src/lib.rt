@@ -28,6 +28,7 @@ mod file_types;
 mod heads;
 mod jumps;
 mod kinds;
+mod left_out;
 mod names;
 mod overloads;
 

@@ -1,18 +1,18 @@
 -- What is made of values component by component (OpenCL 1.2, 6.2, 6.3 and 6.4). Vectors are not promoted; a scalar beside a vector is
 -- converted to its components' type, and is each of them (6.2.6; ours: each scalar converts so).
-use Rattle.std.specs.Prelude.{ℕ, ◌+◌, List, [], ◌∷◌, ◌++◌, length, Bool, cond, not, ◌||◌, ◌&&◌, nat_eq, pos, Ok, Option, Some, None}
+use Rattle.std.specs.Prelude.{ℕ, ◌+◌, List, [], ◌∷◌, ◌++◌, length, Bool, true, false, cond, not, ◌||◌, ◌&&◌, nat_eq, pos, Ok, Option, Some, None}
 use Rattle.semantics.specs.Word as word
 use Rattle.semantics.specs.Word.{Kind, Direction, Leftward, Rightward}
 use Rattle.semantics.specs.Core.{Site, Array, Term, Literal, Variable, Load, Binary, Opaque, Select}
 use Rattle.texts.specs.Surface.{InfixSign, Arithmetic, LeftShift, RightShift, Comparison, LogicalAnd, LogicalOr}
 use Rattle.opencl_tree.specs.Tree.{PrefixSign, Minus, Plus, LogicalNot, BitNot, Indirection, AddressOf}
-use Rattle.opencl_terms.specs.Types.{Scalar, ValueType, Value, type_of, value_of, is_vector, is_float, stored_kind, is_unsettled}
+use Rattle.opencl_terms.specs.Types.{Scalar, Boolean, ValueType, Value, type_of, value_of, is_vector, is_float, stored_kind, is_unsettled}
 use Rattle.opencl_terms.specs.Conversions.{uint, loaded}
 use Rattle.opencl_terms.specs.Components.{has_highest_bit}
 use Rattle.opencl_terms.specs.Operations.{nothing}
 use Rattle.opencl_terms.specs.Operators as operators
 use Rattle.opencl_terms.specs.Operators.{OfOne, OfTwo, of_one_component, of_two_components, test_type, may_take}
-use Rattle.opencl_values.specs.Faults.{Checked, WrongType, LeftOut, Pointer, Long, refused, then, when}
+use Rattle.opencl_values.specs.Faults.{Checked, WrongType, LeftOut, Vector, Pointer, Long, refused, then, when}
 use Rattle.opencl_values.specs.Singles.{Single, single, alone, as_scalar, as_test}
 use Rattle.opencl_values.specs.Operations as scalars
 use Rattle.opencl_values.specs.Wholes.{whole, single_in, only, component, is_same_type, places, behind, behind_dropped, nth_with}
@@ -121,10 +121,19 @@ vector_made ids site m t = value_of t (made_behind ids site m [] (places t.width
 abbrev pub type_of_vectors : Site → (l r : Value) → Checked ValueType
 type_of_vectors site l r = when (is_same_type l.type r.type) WrongType site l.type
 
-abbrev pub type_of_both : Site → (l r : Value) → Checked ValueType
-type_of_both site l r =
+abbrev pub type_of_one : Site → (l r : Value) → Checked ValueType
+type_of_one site l r =
     cond (is_vector l.type) (cond (is_vector r.type) (type_of_vectors site l r) (Ok l.type))
     (cond (is_vector r.type) (Ok r.type) (refused WrongType site))
+
+-- a `bool` has all bits set in a vector where it is cast to one (6.2.2), and 1 where it stands beside one: it is left out
+abbrev pub is_boolean : Scalar → Bool
+is_boolean Boolean = true
+is_boolean s = false
+
+abbrev pub type_of_both : Site → (l r : Value) → Checked ValueType
+type_of_both site l r =
+    cond (is_boolean l.type.scalar || is_boolean r.type.scalar) (refused (LeftOut Vector) site) (type_of_one site l r)
 
 abbrev pub vector_prefix : (ids : Kind) → PrefixSign → Site → Value → Checked Value
 vector_prefix ids Minus site v = Ok (vector_made ids site (One operators.Negative v.type v) v.type)
@@ -204,7 +213,8 @@ scalar_as ids site s v = then (only site v) (λ one. Ok (whole (single s (as_sca
 
 abbrev pub vector_as : (ids : Kind) → Site → ValueType → Value → Checked Value
 vector_as ids site t v =
-    when (not (is_vector v.type) || is_same_type v.type t) WrongType site (vector_made ids site (Converted t.scalar v) t)
+    cond (is_boolean v.type.scalar) (refused (LeftOut Vector) site)
+    (when (not (is_vector v.type) || is_same_type v.type t) WrongType site (vector_made ids site (Converted t.scalar v) t))
 
 abbrev pub converted_to : (ids : Kind) → Site → ValueType → Value → Checked Value
 converted_to ids site t v = cond (is_vector t) (vector_as ids site t v) (scalar_as ids site t.scalar v)

@@ -419,8 +419,8 @@ pub fn vector_made(
     })
 }
 
-fn type_of_both(at: Site, left: &Value, right: &Value) -> Result<ValueType, ValueError>
-    ensures { Gives value_type result (rules.type_of_both (site at) (value_seen left.now) (value_seen right.now)) }
+fn type_of_one(at: Site, left: &Value, right: &Value) -> Result<ValueType, ValueError>
+    ensures { Gives value_type result (rules.type_of_one (site at) (value_seen left.now) (value_seen right.now)) }
 {
     match (left.of.is_vector(), right.of.is_vector()) {
         (true, true) if is_same_type(left.of, right.of) => Ok(left.of),
@@ -428,6 +428,21 @@ fn type_of_both(at: Site, left: &Value, right: &Value) -> Result<ValueType, Valu
         (false, true) => Ok(right.of),
         _ => refused(Fault::WrongType, at),
     }
+}
+
+fn is_boolean(of: Scalar) -> bool
+    ensures { result ≡ rules.is_boolean (scalar_seen of) }
+{
+    matches!(of, Scalar::Boolean)
+}
+
+fn type_of_both(at: Site, left: &Value, right: &Value) -> Result<ValueType, ValueError>
+    ensures { Gives value_type result (rules.type_of_both (site at) (value_seen left.now) (value_seen right.now)) }
+{
+    if is_boolean(left.of.scalar) || is_boolean(right.of.scalar) {
+        return refused(Fault::LeftOut(Construct::Vector), at);
+    }
+    type_of_one(at, left, right)
 }
 
 fn vector_prefix(
@@ -696,6 +711,9 @@ fn vector_as(
 ) -> Result<Value, ValueError>
     ensures { Gives value_seen result (rules.vector_as (kind_seen ids) (site at) (value_type to) (value_seen of.now)) }
 {
+    if is_boolean(of.of.scalar) {
+        return refused(Fault::LeftOut(Construct::Vector), at);
+    }
     if of.of.is_vector() && !is_same_type(of.of, to) {
         return refused(Fault::WrongType, at);
     }

@@ -115,7 +115,10 @@ def serve():
 
 
 class Apart:
-    """The device in another process, which is begun anew where it ended."""
+    """The device in another process, which is begun anew where it ended. Another one is in lowered.py."""
+
+    # how it is called, and what it may tell of a kernel that is a fault of the program
+    name, faults = "the compiler", ()
 
     def __init__(self):
         self.process = None
@@ -158,8 +161,8 @@ def parameters_of(kernel):
 class Front:
     """The program and the device, and what came of both."""
 
-    def __init__(self, place, seconds):
-        self.place, self.seconds, self.device = place, seconds, Apart()
+    def __init__(self, place, seconds, device):
+        self.place, self.seconds, self.device = place, seconds, device
 
     def said(self, *words, seconds=LIMIT):
         """The status of the program and what it prints; None where it took too long."""
@@ -205,17 +208,17 @@ class Front:
             return told, None
         made = self.device.run(kernel, kernel.text(statements))
         if "error" in made:
-            return "not made by the compiler", made["error"]
+            return made.get("told", "not made by the compiler"), made["error"]
         buffers = [{name: [kernel.shown(name, it) for it in words] for name, words in it.items()} for it in made["buffers"]]
         return ("the same", None) if buffers == wanted else ("DIFFERENT", (wanted, buffers))
 
-    def smaller(self, kernel):
-        """The statements, with some left out while the results differ."""
+    def smaller(self, kernel, told):
+        """The statements, with some left out while the same is told."""
         statements, is_less = kernel.statements, True
         while is_less:
             is_less = False
             for fewer in list(shorter(statements)):
-                if self.compared(kernel, fewer)[0] == "DIFFERENT":
+                if self.compared(kernel, fewer)[0] == told:
                     statements, is_less = fewer, True
                     break
         return statements
@@ -238,73 +241,85 @@ def shorter(statements):
                 yield [*front, (*it[:number], fewer, *it[number + 1:]), *behind]
 
 
-def difference_text(results):
-    """The words that differ."""
+def difference_text(results, by):
+    """The words that differ, or what else is told of a kernel."""
+    if not isinstance(results, tuple):
+        return f"{results}\n"
     lines = []
     for number, (wanted, made) in enumerate(zip(*results), 1):
         for name, words in wanted.items():
             for at, (one, other) in enumerate(zip(words, made[name])):
                 if one != other:
-                    lines.append(f"launch {number}: {name}[{at}] is {one} here, {other} by the compiler")
+                    lines.append(f"launch {number}: {name}[{at}] is {one} here, {other} by {by}")
     return "\n".join(lines) + "\n"
 
 
-def keep(front, kernel, folder):
-    """Writes a kernel that differs, with both results, and a smaller one."""
+def keep(front, kernel, folder, wanted):
+    """Writes a kernel of which this is told, with both results, and a smaller one."""
     place = os.path.join(folder, kernel.name.replace(":", "_"))
     os.makedirs(place, exist_ok=True)
-    for name, statements in (("kernel", kernel.statements), ("smaller", front.smaller(kernel))):
+    for name, statements in (("kernel", kernel.statements), ("smaller", front.smaller(kernel, wanted))):
         told, results = front.compared(kernel, statements)
         put(os.path.join(place, f"{name}.cl"), kernel.text(statements))
-        put(os.path.join(place, f"{name}.txt"), difference_text(results) if told == "DIFFERENT" else f"{told}\n")
+        put(os.path.join(place, f"{name}.txt"), f"{told}\n" + difference_text(results, front.device.name))
     put(os.path.join(place, "conditions"), kernel.conditions)
     for number, words in enumerate(kernel.words, 1):
         put(os.path.join(place, f"launch{number}"), kernel.launch(words, 0))
     return place
 
 
-def compare(count, seed, is_new, seconds, first, folder):
+def compare(device, count, seed, is_new, seconds, first, folder):
     found, started, number = collections.Counter(), time.monotonic(), first
     # whoever ends it is told what was found till then
     signal.signal(signal.SIGTERM, lambda *_: sys.exit(1))
     with tempfile.TemporaryDirectory() as place:
-        front = Front(place, seconds)
+        front = Front(place, seconds, device)
         try:
             while found["the same"] + found["DIFFERENT"] < count:
                 kernel = Kernel(seed, number, is_new)
                 told, results = front.compared(kernel, kernel.statements)
                 found[told] += 1
-                if told == "DIFFERENT":
-                    print(f"{kernel.name}: {told} {keep(front, kernel, folder)}", flush=True)
+                if told == "DIFFERENT" or told in device.faults:
+                    print(f"{kernel.name}: {told} {keep(front, kernel, folder, told)}", flush=True)
                 elif told in UNEXPECTED:
                     print(f"{kernel.name}: {told} {(results or '').strip()[-300:]}", flush=True)
                 number += 1
         finally:
-            front.device.close()
+            device.close()
             how = ", with --new" if is_new else ""
             print(f"{number - first} kernels of seed {seed} from number {first}{how}, {time.monotonic() - started:.0f} s")
             print_counts(dict(sorted(found.items())))
-    return found["DIFFERENT"]
+    return found["DIFFERENT"] + sum(found[it] for it in device.faults)
+
+
+def text_behind(words, option, default):
+    """The word behind an option, and the words without both; the default where the option is not there."""
+    if option not in words:
+        return default, words
+    at = words.index(option)
+    return words[at + 1], words[:at] + words[at + 2:]
+
+
+def compare_random(device, words, folder, usage):
+    """What the words of a call ask for, of random kernels."""
+    is_new, words = "--new" in words, [it for it in words if it != "--new"]
+    seconds, words = number_behind(words, "--seconds", 4)
+    first, words = number_behind(words, "--first", 0)
+    folder, words = text_behind(words, "--folder", folder)
+    if len(words) != 2 or not words[0].isdigit():
+        sys.exit(usage)
+    return 1 if compare(device, int(words[0]), words[1], is_new, seconds, first, folder) else 0
 
 
 def main():
-    words, is_new = sys.argv[1:], "--new" in sys.argv
+    words = sys.argv[1:]
     if words == ["serve"]:
         return serve()
-    words = [it for it in words if it != "--new"]
-    seconds, words = number_behind(words, "--seconds", 4)
-    first, words = number_behind(words, "--first", 0)
-    folder = "front_differs"
-    if "--folder" in words:
-        at = words.index("--folder")
-        folder, words = words[at + 1], words[:at] + words[at + 2:]
-    if len(words) == 3 and words[0] == "show":
-        kernel = Kernel(words[1], int(words[2]), is_new)
+    if len(words) in (3, 4) and words[0] == "show":
+        kernel = Kernel(words[1], int(words[2]), "--new" in words)
         print(kernel.text(kernel.statements), kernel.conditions, kernel.launch(kernel.words[0], 0), sep="\n")
         return 0
-    if len(words) != 2 or not words[0].isdigit():
-        sys.exit(__doc__)
-    return 1 if compare(int(words[0]), words[1], is_new, seconds, first, folder) else 0
+    return compare_random(Apart(), words, "front_differs", __doc__)
 
 
 if __name__ == "__main__":
